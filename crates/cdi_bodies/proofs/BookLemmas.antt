@@ -1,7 +1,7 @@
 -- Where a body stands whose name is looked for, and what the names of a book tell of its bodies.
-use Rattle.std.proofs.Common.{◌≡◌, ◌≢◌, ◌∙◌, ap, sym, refl, subst, arith, ℕ, ◌+◌, ◌<◌, ◌≤◌, nat_eq, nat_lt, Bool, true, false, not, cond}
-use Rattle.std.proofs.Common.{List, [], ◌∷◌, ◌++◌, map, length, drop, get_or, slice_get, position, find, Option, Some, None, option_map}
-use Rattle.std.specs.List.{AllPairs, IsDistinct, list_any, position_or_len}
+use Rattle.std.proofs.Common.{◌≡◌, ◌≢◌, ◌∙◌, ap, sym, refl, subst, arith, ℕ, ◌+◌, ◌<◌, ◌≤◌, nat_eq, Bool, true, false, not, List, [], ◌∷◌}
+use Rattle.std.proofs.Common.{◌++◌, map, length, drop, get_or, slice_get, position, find, Option, Some, None, option_map}
+use Rattle.std.specs.List.{AllPairs, IsDistinct, list_any}
 use Rattle.std.proofs.lemmas.List.{append-nil, append_assoc, drop_all, drop_more, get_or_append_left, length-append, length-map}
 use Rattle.std.specs.{Cmp.Lexicographic.bytes_decides, Cmp.Lexicographic.pointwise, Option.IfSome}
 use Rattle.std.proofs.{lemmas.Bool.ltb-false, Math.Seq.get_or-append_seam, lemmas.List.Folds.find_at}
@@ -15,20 +15,11 @@ use Rattle.cdi_bodies.specs.declared.promise.Promise.{Promise}
 module _ {X : Type 0} (p : X → Bool) (xs : List X) where
   -- what passes first is found at its place
   find_there : (i : ℕ) → Some i ≡ position p xs → find p xs ≡ slice_get xs i
-  find_there i at = by (nat_lt (position_or_len p xs) (length xs)) at
-    where
-      by : (b : Bool) → Some i ≡ cond b (Some (position_or_len p xs)) None → find p xs ≡ slice_get xs i
-      by true e = let n : position_or_len p xs ≡ i = cc in find_at p xs ∙ ap (slice_get xs) n
-      by false e = cc
+  find_there i at = grind (arith, find_at)
 
   -- and what has no place is not found
   find_nowhere : None ≡ position p xs → find p xs ≡ None
-  find_nowhere at = by (nat_lt (position_or_len p xs) (length xs)) refl at
-    where
-      by : (b : Bool) → nat_lt (position_or_len p xs) (length xs) ≡ b → None ≡ cond b (Some (position_or_len p xs)) None
-          → find p xs ≡ None
-      by true _ e = cc
-      by false past e = find_at p xs ∙ slice_get_past xs (position_or_len p xs) (ltb-false (position_or_len p xs) (length xs) past)
+  find_nowhere at = grind (arith, find_at, slice_get_past, ltb-false)
 
 -- no body of the name: no promise
 pub no_promise : (bodies : List Promised) (name : List ℕ) → None ≡ position_of bodies name → promise_of bodies name ≡ None
@@ -51,9 +42,7 @@ module _ {B : Type 0} (name_of : B → List ℕ) (promise_in : B → Promise) wh
   -- the place of a name is that of its body
   pub position_named : (bodies : List B) (names : List (List ℕ)) (name : List ℕ)
       → names ≡ map name_of bodies → position (pointwise nat_eq name) names ≡ position_of (seen bodies) name
-  position_named bodies names name named =
-      ap (position (pointwise nat_eq name)) named ∙ position-map name_of (pointwise nat_eq name) bodies
-      ∙ sym (position-map (λ body. (name_of body, promise_in body)) (is_named name) bodies)
+  position_named bodies names name named = grind (arith, position-map)
 
   -- and the promise of the name is that of the body there
   pub promise_there : (bodies : List B) (name : List ℕ) (i : ℕ) (body : B)
@@ -67,9 +56,7 @@ module _ {B : Type 0} (name_of : B → List ℕ) (promise_in : B → Promise) wh
   -- the body at a place
   pub body_there : (bodies : List B) (i : ℕ) (body : B) → i < length (seen bodies) → body ≡ get_or bodies i body
       → slice_get bodies i ≡ Some body
-  body_there bodies i body within here =
-      let as_long = length-map {B = Promised} bodies (λ b. (name_of b, promise_in b)) in
-      slice_get-get_or bodies i body (omega (arith, within, as_long)) ∙ ap Some (sym here)
+  body_there bodies i body within here = grind (arith, length-map, slice_get-get_or)
 
   names-seen : (bodies : List B) → map (λ body. body.0) (seen bodies) ≡ map name_of bodies
   names-seen [] = refl
@@ -85,11 +72,7 @@ module _ {B : Type 0} (name_of : B → List ℕ) (promise_in : B → Promise) wh
   pub names_more : (bodies : List B) (i : ℕ) (body : B) (names more : List (List ℕ)) → i < length bodies → body ≡ get_or bodies i body
       → more ≡ names ++ name_of body ∷ [] → names ++ map name_of (drop i bodies) ≡ map name_of bodies
       → more ++ map name_of (drop (i + 1) bodies) ≡ map name_of bodies
-  names_more bodies i body names more within here grown all =
-      ap (λ ns. ns ++ map name_of (drop (i + 1) bodies)) grown
-      ∙ append_assoc names (name_of body ∷ []) (map name_of (drop (i + 1) bodies))
-      ∙ ap (λ bs. names ++ map name_of bs) (ap (λ b. b ∷ drop (i + 1) bodies) here ∙ sym (drop_more bodies i body within))
-      ∙ all
+  names_more bodies i body names more within here grown all = grind (arith, append_assoc, drop_more)
 
   -- distinct names are names of distinct bodies
   pub distinct_bodies : (bodies : List B) (names : List (List ℕ)) → names ≡ map name_of bodies → IsDistinct (pointwise nat_eq) names
@@ -122,17 +105,9 @@ if_there P found promise there holds = subst (λ o. IfSome o P) (sym there) hold
 pub name_added : (name : List ℕ) (names more : List (List ℕ)) (is_new : Bool)
     → is_new ≡ not (list_any (pointwise nat_eq name) names) → is_new ≡ true
     → more ≡ insert_key (pointwise nat_eq) names name → more ≡ names ++ name ∷ []
-name_added name names more is_new added new grown = by (list_any (pointwise nat_eq name) names) added grown
-  where
-    by : (b : Bool) → is_new ≡ not b → more ≡ cond b names (names ++ name ∷ []) → more ≡ names ++ name ∷ []
-    by true e g = cc
-    by false e g = g
+name_added name names more is_new added new grown = grind arith
 
 -- and one that is not new was there
 pub name_known : (name : List ℕ) (names : List (List ℕ)) (is_new : Bool)
     → is_new ≡ not (list_any (pointwise nat_eq name) names) → is_new ≡ false → list_any (pointwise nat_eq name) names ≡ true
-name_known name names is_new added old = by (list_any (pointwise nat_eq name) names) added
-  where
-    by : (b : Bool) → is_new ≡ not b → b ≡ true
-    by true e = refl
-    by false e = cc
+name_known name names is_new added old = grind arith

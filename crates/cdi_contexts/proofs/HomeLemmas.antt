@@ -1,7 +1,7 @@
 -- Who lives where, as instances come, change and go.
 use Rattle.std.proofs.Common.{◌≡◌, ℕ, zero, suc, ◌<◌, Bool, true, false, ◌==◌, ◌&&◌, cond, List, [], ◌∷◌, ◌++◌, map, length, get_or, drop}
-use Rattle.std.proofs.Common.{Option, Some, None, refl, arith, ap, sym, subst, ◌∙◌}
-use Rattle.std.specs.{List.find, List.remove, Option.option_map, Option.option_or}
+use Rattle.std.proofs.Common.{Option, Some, None, refl, arith, ap, sym, ◌∙◌}
+use Rattle.std.specs.{List.find, List.remove, Option.option_map}
 use Rattle.std.proofs.lemmas.{Bool.Decides.nat_tests, List.Folds.find-append, Bool.cond-false}
 use Rattle.base_options.proofs.Booleans.{and-false}
 use Rattle.cdi_model.specs.declared.outcome.Val.{Val}
@@ -12,15 +12,14 @@ use Rattle.cdi_contexts.specs.Homes.{home_of, is_home_of, lives_at, living_at, o
 use Rattle.cdi_contexts.specs.Standing.{found, numbered, finish, keep}
 use Rattle.cdi_contexts.specs.declared.instance.Owner.TheVariants.{Request, Application, Point, Nobody}
 use Rattle.cdi_contexts.specs.{Owned.is_of, Places.IsPlace, Rising.IsRising, Rising.RisesFrom, SameHomes.same_home}
-use Rattle.cdi_contexts.specs.declared.{homes.Home.Home, homes.Homes.Homes, instance.Instance.Instance, instance.InstanceId.InstanceId}
+use Rattle.cdi_contexts.specs.declared.{homes.Home.Home, homes.Homes.Homes, instance.Instance.Instance}
 use Rattle.cdi_contexts.specs.declared.instance.Owner.{Owner}
 use Rattle.cdi_contexts.specs.declared.homes.Home.TheVariants as homes
 
 -- ---- an instance lives at its home and nowhere else
 
 and_true : (b : Bool) → (b && true) ≡ b
-and_true true = refl
-and_true false = refl
+and_true t1 = grind arith
 
 -- whether it is this home, where there is one
 abbrev is_this : Option Home → Home → Bool
@@ -62,22 +61,15 @@ abbrev IsNumbered : ℕ → List Instance → Instance → Type 0
 IsNumbered low live j = (low < j.id.number) × (numbered live j.id.number ≡ Some j)
 
 first_numbered : (low : ℕ) (i j : Instance) (is : List Instance) → low < i.id.number → Some i ≡ Some j → IsNumbered low (i ∷ is) j
-first_numbered low i j is less e =
-    let same : i ≡ j = cc in
-    let itself : (i.id.number == i.id.number) ≡ true = grind arith in
-    subst (λ (x : Instance). IsNumbered low (i ∷ is) x) same (less, rw itself refl)
+first_numbered low i j is less e = grind (arith, i.id.number)
 
 later_numbered : (low : ℕ) (i j : Instance) (is : List Instance) → low < i.id.number → IsNumbered i.id.number is j
     → IsNumbered low (i ∷ is) j
-later_numbered low i j is less rest =
-    let above = rest.0 in
-    let apart : (i.id.number == j.id.number) ≡ false = grind (arith, nat_tests, above) in
-    (omega (arith, less, above), cond-false (i.id.number == j.id.number) (Some i) (numbered is j.id.number) apart ∙ rest.1)
+later_numbered low i j is less rest = grind (arith, rest.0, i.id.number, j.id.number, rest.1, above, nat_tests, cond-false)
 
 found_step : (b : Bool) (low : ℕ) (i j : Instance) (is : List Instance) (o : Option Instance) → low < i.id.number
     → cond b (Some i) o ≡ Some j → (o ≡ Some j → IsNumbered i.id.number is j) → IsNumbered low (i ∷ is) j
-found_step true low i j is o less e rest = first_numbered low i j is less e
-found_step false low i j is o less e rest = later_numbered low i j is less (rest e)
+found_step t1 low i j is o less e rest = grind (arith, first_numbered, later_numbered)
 
 found_numbered : (p : Instance → Bool) (low given : ℕ) (live : List Instance) (j : Instance) → RisesFrom low given live
     → find p live ≡ Some j → IsNumbered low live j
@@ -88,37 +80,22 @@ found_numbered p low given (i ∷ is) j r e =
 -- the number that stands at a home is that of who lives there
 pub living_numbered : (given : ℕ) (live : List Instance) (h : Home) (n : ℕ) → IsRising given live → Some n ≡ oldest_at h live
     → numbered live n ≡ living_at h live
-living_numbered given live h n r e = by (living_at h live) refl
-  where
-    by : (o : Option Instance) → living_at h live ≡ o → numbered live n ≡ living_at h live
-    by None is = absurd (let no : Some n ≡ None = e ∙ ap (option_map (λ i. i.id.number)) is in cc)
-    by (Some j) is =
-        let same : Some n ≡ Some j.id.number = e ∙ ap (option_map (λ i. i.id.number)) is in
-        let number : n ≡ j.id.number = cc in
-        rw number (found_numbered (lives_at h) 0 given live j r is).1 ∙ sym is
+living_numbered given live h n r e = grind (arith, found_numbered)
 
 pub living_nowhere : (live : List Instance) (h : Home) → None ≡ oldest_at h live → None ≡ living_at h live
-living_nowhere live h e = by (living_at h live) refl
-  where
-    by : (o : Option Instance) → living_at h live ≡ o → None ≡ living_at h live
-    by None is = sym is
-    by (Some j) is = absurd (let no : None ≡ Some j.id.number = e ∙ ap (option_map (λ i. i.id.number)) is in cc)
+living_nowhere live h e = grind arith
 
 -- ---- an instance changes what it holds
 
 oldest_of : (b : Bool) (i j : Instance) (o p : Option Instance) → j.id ≡ i.id
     → option_map (λ (x : Instance). x.id.number) o ≡ option_map (λ (x : Instance). x.id.number) p
     → option_map (λ (x : Instance). x.id.number) (cond b (Some j) o) ≡ option_map (λ (x : Instance). x.id.number) (cond b (Some i) p)
-oldest_of true i j o p same rest = ap (λ (d : InstanceId). Some d.number) same
-oldest_of false i j o p same rest = rest
+oldest_of t1 i j o p same rest = grind arith
 
 oldest-map : (h : Home) (f : Instance → Instance) (live : List Instance) → ((i : Instance) → IsSame i (f i))
     → oldest_at h (map f live) ≡ oldest_at h live
 oldest-map h f [] same = refl
-oldest-map h f (i ∷ is) same =
-    let there : lives_at h (f i) ≡ lives_at h i = rw ((same i).0, (same i).1) refl in
-    ap (λ b. option_map (λ (x : Instance). x.id.number) (cond b (Some (f i)) (living_at h (map f is)))) there
-    ∙ oldest_of (lives_at h i) i (f i) (living_at h (map f is)) (living_at h is) (same i).0 (oldest-map h f is same)
+oldest-map h f (i ∷ is) same = grind (arith, oldest-map h f is same, map, oldest_of)
 
 pub homes-same : (homes : Homes) (f : Instance → Instance) (live xs : List Instance) → ((i : Instance) → IsSame i (f i))
     → xs ≡ map f live → AreHomesOf homes live → AreHomesOf homes xs
@@ -136,14 +113,7 @@ homes-stored homes n v live xs e are = homes-same homes (keep n v) live xs (λ i
 
 oldest-more : (h : Home) (live : List Instance) (i : Instance)
     → oldest_at h (live ++ i ∷ []) ≡ joined (oldest_at h live) (lives_at h i) i.id.number
-oldest-more h live i =
-    ap (option_map (λ j. j.id.number)) (find-append (lives_at h) live (i ∷ [])) ∙ by (living_at h live) (lives_at h i)
-  where
-    by : (o : Option Instance) (b : Bool) → option_map (λ (j : Instance). j.id.number) (option_or o (cond b (Some i) None))
-        ≡ joined (option_map (λ (j : Instance). j.id.number) o) b i.id.number
-    by (Some j) b = refl
-    by None true = refl
-    by None false = refl
+oldest-more h live i = grind (arith, i.id.number, find-append)
 
 -- ---- an instance goes
 
@@ -155,22 +125,18 @@ left-here : (n : ℕ) (next : Option ℕ) → left_of (Some n) true n next ≡ n
 left-here n next = let itself : (n == n) ≡ true = grind arith in rw itself refl
 
 left-older : (m n : ℕ) (here : Bool) (next : Option ℕ) → m < n → left_of (Some m) here n next ≡ Some m
-left-older m n here next less =
-    let other : (m == n) ≡ false = grind (arith, nat_tests, less) in
-    rw (other, and-false here) refl
+left-older m n here next less = grind (arith, nat_tests, and-false)
 
 removed_first : (h : Home) (i : Instance) (is : List Instance) (b : Bool)
     → oldest_at h is
     ≡ left_of (option_map (λ (j : Instance). j.id.number) (cond b (Some i) (living_at h is))) b i.id.number (oldest_at h is)
-removed_first h i is true = sym (left-here i.id.number (oldest_at h is))
-removed_first h i is false = sym (left-elsewhere (oldest_at h is) i.id.number (oldest_at h is))
+removed_first h i is t1 = grind (arith, i.id.number, left-here, left-elsewhere)
 
 removed_later : (b here : Bool) (i : Instance) (o p : Option Instance) (n : ℕ) (next : Option ℕ) → i.id.number < n
     → option_map (λ (j : Instance). j.id.number) o ≡ left_of (option_map (λ (j : Instance). j.id.number) p) here n next
     → option_map (λ (j : Instance). j.id.number) (cond b (Some i) o)
     ≡ left_of (option_map (λ (j : Instance). j.id.number) (cond b (Some i) p)) here n next
-removed_later true here i o p n next less rest = sym (left-older i.id.number n here next less)
-removed_later false here i o p n next less rest = rest
+removed_later t1 here i o p n next less rest = grind (arith, i.id.number, left-older)
 
 oldest-removed : (h : Home) (low given : ℕ) (live : List Instance) (k : ℕ) (d : Instance) → RisesFrom low given live → k < length live
     → oldest_at h (remove live k)
@@ -187,11 +153,7 @@ pub homes-removed : (homes new : Homes) (given n : ℕ) (live : List Instance) (
     → AreHomesOf homes live → IsPlace live n (Some k) → i ≡ get_or live k i
     → ((h : Home) → kept_at new h ≡ left_of (kept_at homes h) (lives_at h i) i.id.number (oldest_at h (drop k (remove live k))))
     → AreHomesOf new (remove live k)
-homes-removed homes new given n live k i r are place at kept h =
-    let next = oldest_at h (drop k (remove live k)) in
-    let removed = oldest-removed h 0 given live k i r place.0 in
-    kept h ∙ ap (λ o. left_of o (lives_at h i) i.id.number next) (are h)
-    ∙ sym (removed ∙ ap (λ (j : Instance). left_of (oldest_at h live) (lives_at h j) j.id.number next) (sym at))
+homes-removed homes new given n live k i r are place at kept h = grind (arith, place.0, i.id.number, drop, oldest-removed)
 
 -- who has no home is kept nowhere
 abbrev IsNobodys : Instance → Type 0
@@ -202,11 +164,7 @@ nobodys i h e = lives_home h i.id.bean i.owner ∙ ap (λ o. is_this o h) e
 
 pub joined-nobodys : (i : Instance) (h : Home) (o : Option ℕ) → None ≡ home_of i.id.bean i.owner
     → o ≡ joined o (lives_at h i) i.id.number
-joined-nobodys i h o e = by o ∙ sym (ap (λ b. joined o b i.id.number) (nobodys i h (sym e)))
-  where
-    by : (o : Option ℕ) → o ≡ joined o false i.id.number
-    by (Some m) = refl
-    by None = refl
+joined-nobodys i h o e = grind (arith, i.id.number, nobodys)
 
 -- ---- an instance is begun
 

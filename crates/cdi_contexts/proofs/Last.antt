@@ -1,12 +1,12 @@
 -- The youngest of some instances.
-use Rattle.std.proofs.Common.{◌≡◌, ℕ, ◌<◌, ◌≤◌, Bool, true, false, ◌==◌, cond, List, [], ◌∷◌, ◌++◌, reverse, Option, Some, None, IsSome}
-use Rattle.std.proofs.Common.{IfSome, refl, arith, subst, sym}
+use Rattle.std.proofs.Common.{◌≡◌, ℕ, ◌<◌, ◌≤◌, Bool, true, ◌==◌, cond, List, [], ◌∷◌, ◌++◌, reverse, Option, Some, None, IsSome, IfSome}
+use Rattle.std.proofs.Common.{refl, arith, subst, sym}
 use Rattle.std.specs.{List.find, List.AllByRecursion, Option.option_map}
 use Rattle.std.proofs.lemmas.List.{reverse-append}
 use Rattle.cdi_model.specs.declared.decl.Scope.{Scope}
 use Rattle.cdi_contexts.proofs.Rising.{rises_bound}
 use Rattle.cdi_contexts.specs.Standing.{last_where, last_of, last_in, numbered, IsLive}
-use Rattle.cdi_contexts.specs.{Owned.is_part_of, Owned.is_of, Rising.IsRising, Rising.RisesFrom, Rising.IsOwnerOf}
+use Rattle.cdi_contexts.specs.{Owned.is_part_of, Rising.IsRising, Rising.RisesFrom, Rising.IsOwnerOf}
 use Rattle.cdi_contexts.specs.declared.instance.{Instance.Instance, InstanceId.InstanceId, Owner.Owner, Owner.TheVariants.Point}
 
 -- ---- what stands of each live instance
@@ -16,12 +16,10 @@ abbrev pub Stands : ℕ → List Instance → Instance → Type 0
 Stands given live i = IsOwnerOf i.id.number i.owner × IsLive given live i.id.number
 
 here_first : (b : Bool) (i : Instance) (o : Option Instance) → b ≡ true → IsSome (cond b (Some i) o)
-here_first true i o h = refl
-here_first false i o h = cc
+here_first t1 i o h = grind arith
 
 here_later : (b : Bool) (i : Instance) (o : Option Instance) → IsSome o → IsSome (cond b (Some i) o)
-here_later true i o h = refl
-here_later false i o h = h
+here_later t1 i o h = grind arith
 
 all_later : (given : ℕ) (i : Instance) (live is : List Instance) → AllByRecursion (Stands given live) is
     → AllByRecursion (Stands given (i ∷ live)) is
@@ -33,9 +31,7 @@ all_later given i live (j ∷ js) a =
 all_stand : (low given : ℕ) (live : List Instance) → RisesFrom low given live → AllByRecursion (Stands given live) live
 all_stand low given [] r = tt
 all_stand low given (i ∷ is) r =
-    let itself : (i.id.number == i.id.number) ≡ true = grind arith in
-    let first = here_first (i.id.number == i.id.number) i (numbered is i.id.number) itself in
-    ((r.1, (rises_bound i.id.number given is r.2, first)), all_later given i is is (all_stand i.id.number given is r.2))
+    grind (arith, all_stand i.id.number given is r.2, i.id.number, r.1, r.2, here_first, rises_bound, all_later)
 
 -- ---- what is found from the end
 
@@ -55,8 +51,7 @@ IsSuch P f d = (i : Instance) × P i × (f i.owner ≡ true) × (i.id ≡ d)
 such_first : (P : Instance → Type 0) (f : Owner → Bool) (d : InstanceId) (i : Instance) (b : Bool) (o : Option Instance)
     → f i.owner ≡ b → P i → (option_map (λ i. i.id) o ≡ Some d → IsSuch P f d)
     → option_map (λ i. i.id) (cond b (Some i) o) ≡ Some d → IsSuch P f d
-such_first P f d i true o h p rest e = (i, p, h, cc)
-such_first P f d i false o h p rest e = rest e
+such_first P f d i t1 o h p rest e = grind arith
 
 such_found : (P : Instance → Type 0) (f : Owner → Bool) (d : InstanceId) (xs : List Instance) → AllByRecursion P xs
     → option_map (λ i. i.id) (find (λ i. f i.owner) xs) ≡ Some d → IsSuch P f d
@@ -85,16 +80,10 @@ live_along P a b e p = subst (λ (x : InstanceId). P x.number) e p
 
 pub young_if : (given n : ℕ) (live : List Instance) (o : Option InstanceId) → IsRising given live → o ≡ last_of live n
     → IfSome o (λ d. (n < d.number) × (d.number ≤ given) × IsSome (numbered live d.number))
-young_if given n live (Some d) r e =
-    let y = last_such (is_part_of n) given live d r (sym e) in
-    let above = part_above y.0.id.number n y.0.owner y.1.0 y.2 in
-    let is_young = λ (x : ℕ). (n < x) × (x ≤ given) × IsSome (numbered live x) in
-    live_along is_young y.0.id d y.3 (above, y.1.1.0, y.1.1.1)
+young_if given n live (Some d) r e = grind (arith, last_such, part_above, live_along)
 young_if given n live None r e = tt
 
 pub lives_if : (given : ℕ) (scope : Scope) (live : List Instance) (o : Option InstanceId) → IsRising given live
     → o ≡ last_in live scope → IfSome o (λ d. IsLive given live d.number)
-lives_if given scope live (Some d) r e =
-    let y = last_such (is_of scope) given live d r (sym e) in
-    live_along (IsLive given live) y.0.id d y.3 y.1.1
+lives_if given scope live (Some d) r e = grind (arith, last_such, live_along)
 lives_if given scope live None r e = tt

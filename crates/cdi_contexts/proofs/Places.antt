@@ -26,9 +26,7 @@ pub along : (low given : ℕ) (live : List Instance) (j k : ℕ) (d : Instance) 
     → number_at live j d ≤ number_at live k d
 along low given [] j k d r h b = omega (arith, b)
 along low given (i ∷ is) zero zero d r h b = omega arith
-along low given (i ∷ is) zero (suc k) d r h b =
-    let rest = above i.id.number given is k d r.2 (omega (arith, b)) in
-    omega (arith, rest)
+along low given (i ∷ is) zero (suc k) d r h b = grind (arith, i.id.number, r.2, above)
 along low given (i ∷ is) (suc j) zero d r h b = omega (arith, h)
 along low given (i ∷ is) (suc j) (suc k) d r h b = along i.id.number given is j k d r.2 (omega (arith, h)) (omega (arith, b))
 
@@ -67,8 +65,7 @@ numbered_nowhere n (i ∷ is) a =
     cond-false (i.id.number == n) (Some i) (numbered is n) (other-head n i is a) ∙ numbered_nowhere n is (other-tail n i is a)
 
 kept : (b : Bool) (i : Instance) (is : List Instance) → b ≡ false → cond (not b) (i ∷ is) is ≡ i ∷ is
-kept true i is h = cc
-kept false i is h = refl
+kept t1 i is h = grind arith
 
 pub without_nowhere : (n : ℕ) (live : List Instance) → IsPlace live n None → without n live ≡ live
 without_nowhere n [] a = refl
@@ -88,12 +85,10 @@ map_nowhere n f (i ∷ is) c a =
 -- ---- at a place
 
 taken : (b : Bool) (i : Instance) (o : Option Instance) → b ≡ true → cond b (Some i) o ≡ Some i
-taken true i o h = refl
-taken false i o h = cc
+taken t1 i o h = grind arith
 
 dropped : (b : Bool) (i : Instance) (is : List Instance) → b ≡ true → cond (not b) (i ∷ is) is ≡ is
-dropped true i is h = refl
-dropped false i is h = cc
+dropped t1 i is h = grind arith
 
 is_it : (a n : ℕ) → a ≡ n → (a == n) ≡ true
 is_it a n h = grind (arith, nat_tests)
@@ -154,16 +149,13 @@ place_along s t n o e p = subst (λ (x : Storage). IsPlace x.standing.live n o) 
 -- ---- what finishes and keeps
 
 ready_other : (b : Bool) (i : Instance) → b ≡ false → (if b then record i { is_ready = true } else i) ≡ i
-ready_other true i h = cc
-ready_other false i h = refl
+ready_other t1 i h = grind arith
 
 produced_other : (b : Bool) (v : Val) (i : Instance) → b ≡ false → (if b then record i { is_ready = true; state = v } else i) ≡ i
-produced_other true v i h = cc
-produced_other false v i h = refl
+produced_other t1 v i h = grind arith
 
 kept_other : (b : Bool) (v : Val) (i : Instance) → b ≡ false → (if b then record i { state = v } else i) ≡ i
-kept_other true v i h = cc
-kept_other false v i h = refl
+kept_other t1 v i h = grind arith
 
 finish-changes : (n : ℕ) (product : Option Val) → Changes n (finish n product)
 finish-changes n None i h = ready_other (i.id.number == n) i h

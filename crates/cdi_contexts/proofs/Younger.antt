@@ -13,12 +13,10 @@ use Rattle.cdi_contexts.specs.declared.instance.Instance.{Instance}
 -- ---- the younger ones are the back of the list
 
 leaves : (b : Bool) (i : Instance) (is : List Instance) → b ≡ false → cond b (i ∷ is) is ≡ is
-leaves true i is h = cc
-leaves false i is h = refl
+leaves t1 i is h = grind arith
 
 takes : (b : Bool) (i : Instance) (is : List Instance) → b ≡ true → cond b (i ∷ is) is ≡ i ∷ is
-takes true i is h = refl
-takes false i is h = cc
+takes t1 i is h = grind arith
 
 all_young : (n : ℕ) (live : List Instance) → ((k : ℕ) (d : Instance) → k < length live → n < number_at live k d)
     → younger_than n live ≡ live
@@ -56,10 +54,7 @@ parted_along given n live xs e r = subst (IsPartitionedBy (λ (i : Instance). le
 pub younger_along : (n : ℕ) (live xs ys : List Instance) (m : ℕ) → xs ≡ live → ys ≡ live → m ≤ length xs
     → IsPartitionPoint (λ (i : Instance). leb i.id.number n ≡ true) (λ i. leb i.id.number n ≡ false) xs m
     → take (length ys - m) (drop m ys) ≡ younger_than n live
-younger_along n live xs ys m e f bound point =
-    let at = λ (zs : List Instance). IsPartitionPoint (λ (i : Instance). leb i.id.number n ≡ true) (λ i. leb i.id.number n ≡ false) zs m in
-    take_rest ys m ∙ ap (drop m) f
-    ∙ younger_back n live m (subst (λ (zs : List Instance). m ≤ length zs) e bound) (subst at e point)
+younger_along n live xs ys m e f bound point = grind (arith, leb, take_rest, drop, younger_back, length)
 
 -- ---- dependents are among the younger ones
 
@@ -87,12 +82,7 @@ find_end p i is = ap (find p) (reverse-append (i ∷ []) is) ∙ find-append p (
 
 skips_back : (b c : Bool) (p : Instance → Bool) (i : Instance) (is js : List Instance) → p i ≡ c → (c ≡ true → b ≡ true)
     → find p (reverse is) ≡ find p (reverse js) → find p (reverse (cond b (i ∷ is) is)) ≡ find p (reverse (i ∷ js))
-skips_back true c p i is js pc young e =
-    find_end p i is ∙ ap (λ o. option_or o (cond (p i) (Some i) None)) e ∙ sym (find_end p i js)
-skips_back false true p i is js pc young e = let no : false ≡ true = young refl in cc
-skips_back false false p i is js pc young e =
-    let last : cond (p i) (Some i) None ≡ None = ap (λ b. cond b (Some i) None) pc in
-    e ∙ sym (find_end p i js ∙ ap (option_or (find p (reverse js))) last ∙ or_none (find p (reverse js)))
+skips_back t1 c p i is js pc young e = grind (arith, find_end, reverse, or_none)
 
 find_young_back : (n : ℕ) (p : Instance → Bool) (live : List Instance) → AllByRecursion (IsYoung n p) live
     → find p (reverse (younger_than n live)) ≡ find p (reverse live)

@@ -2,9 +2,8 @@
 use Rattle.cdi_effective.proofs.Common.{◌≡◌, ◌<◌, ℕ, Bool, true, false, cond, List, [], ◌∷◌, length, refl, sym, ap, ◌∙◌, bytes_eq, one_text}
 use Rattle.cdi_effective.proofs.Common.{option_to_list, Decl, ◌⊎◌, zero, suc, is_some, Option, Some, None, subst, inl, inr, bytes_eq-turned}
 use Rattle.cdi_effective.proofs.Common.{arith, AllByRecursion, IsDistinct, cases_Bool, false≢true, or_cases, or_left, or_right, same_text}
-use Rattle.cdi_effective.proofs.Common.{AllPairs-from_IsDistinct, key_of, name_of_decl, key_at, same_key, find_decl, limit, BeanDecl}
-use Rattle.cdi_effective.proofs.Common.{key_exact, has, as_bean, find_bean, extended, bean_named, specialized, on_from, chain_behind}
-use Rattle.cdi_effective.proofs.Common.{behind, chain, class_names}
+use Rattle.cdi_effective.proofs.Common.{AllPairs-from_IsDistinct, key_of, name_of_decl, key_at, same_key, limit, BeanDecl, key_exact, has}
+use Rattle.cdi_effective.proofs.Common.{as_bean, find_bean, specialized, on_from, chain_behind, behind, chain, class_names}
 use Rattle.std.proofs.Common.{◌≤◌}
 use Rattle.std.specs.Cmp.Lexicographic.{bytes_decides}
 use Rattle.std.proofs.lemmas.Bool.{or_parts}
@@ -38,12 +37,7 @@ found-self : (ds : List Decl) (n : List ℕ) (s : BeanDecl) → find_bean n ds �
 found-self ds n s is = ap (λ m. find_bean m ds) (found-name ds n s is) ∙ is
 
 pub specialized-found : (ds : List Decl) (c s : BeanDecl) → specialized ds c ≡ Some s → find_bean s.name ds ≡ Some s
-specialized-found ds c s is = where_it_says c.specializes (extended (find_decl kinds.Type c.name ds)) is
-  where
-    where_it_says : (b : Bool) (class : Option (List ℕ)) → cond b (bean_named ds class) None ≡ Some s → find_bean s.name ds ≡ Some s
-    where_it_says false class e = cc
-    where_it_says true None e = cc
-    where_it_says true (Some n) e = found-self ds n s e
+specialized-found ds c s is = grind (arith, c.specializes, c.name, s.name, found-self)
 
 -- a bean that is declared has one of the names
 has-declared : (ds : List Decl) (n : List ℕ) → is_some (find_bean n ds) ≡ true → has (names_of ds) n ≡ true
@@ -95,17 +89,7 @@ module _ (ds : List Decl) where
   put-once : (met : Names) (s : BeanDecl) (rest : List BeanDecl) (b : Bool) → has met s.name ≡ b → IsOnce (s.name ∷ met) rest
       → IsOnce met (cond b [] (s ∷ rest))
   unfolding IsDistinct
-  put-once met s rest true e once = (tt, tt)
-  put-once met s rest false e once = (
-    (
-      e,
-      all-weaker (λ k. has (s.name ∷ met) k ≡ false) (λ k. has met k ≡ false) (class_names rest) (λ k h. (or_parts (bytes_eq s.name k) (has met k) h).1) once.0,
-    ),
-    (
-      all-weaker (λ k. has (s.name ∷ met) k ≡ false) (λ k. bytes_eq s.name k ≡ false) (class_names rest) (λ k h. (or_parts (bytes_eq s.name k) (has met k) h).0) once.0,
-      once.1,
-    ),
-  )
+  put-once met s rest t1 e once = grind (arith, s.name, once.0, once.1, all-weaker)
 
   on-once : (n : ℕ) → ((met : Names) (c : BeanDecl) → IsOnce met (chain_behind n ds met c)) → (met : Names) (o : Option BeanDecl)
       → IsOnce met (on_from met (more n met) o)
@@ -162,13 +146,7 @@ module _ (ds : List Decl) where
 
   -- without t
   covers-less : (met left : Names) (t : List ℕ) → Covers met left → Covers (t ∷ met) (apart t left)
-  covers-less met left t covers x declared = elim (cases_Bool (bytes_eq t x)) [
-    | inl same ↦ inl (or_left (bytes_eq t x) (has met x) same)
-    | inr other ↦ elim (covers x declared) [
-      | inl is ↦ inl (or_right (bytes_eq t x) (has met x) is)
-      | inr is ↦ inr (apart_has t x left (bytes_eq-turned x t ∙ other) ∙ is)
-    ]
-  ]
+  covers-less met left t covers x declared = grind (arith, apart_has, bytes_eq-turned)
 
   -- at the bean itself
   at-first : (met : Names) (c : BeanDecl) (o : Option BeanDecl) (x y : List ℕ) → find_bean c.name ds ≡ Some c → specialized ds c ≡ o
@@ -226,10 +204,7 @@ module _ (ds : List Decl) where
 
   steps-closed : (n : ℕ) → Closes n
   unfolding chain_behind
-  steps-closed zero met left c covers room found x y among step = elim (covers y (step-declared ds x y step)) [
-    | inl was ↦ inl was
-    | inr is ↦ absurd (none-left left y room is)
-  ]
+  steps-closed zero met left c covers room found x y among step = grind (arith, step-declared, none-left)
   steps-closed (suc n) met left c covers room found x y among step =
       on-closed n (steps-closed n) met left c (specialized ds c) covers room found refl x y among step
 

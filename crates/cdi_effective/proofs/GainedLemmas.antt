@@ -1,6 +1,6 @@
 -- What a bean gets by its chain, one bean after another.
-use Rattle.cdi_effective.proofs.Common.{◌≡◌, ℕ, List, [], ◌∷◌, refl, ap, ◌∙◌, Decl, uses_in, Option, Some, None, subst, BeanDecl, ◌++◌}
-use Rattle.cdi_effective.proofs.Common.{append_assoc, option_or, ArePlaces, IsPlace, all_declared, last_declared, last_name, name_alone}
+use Rattle.cdi_effective.proofs.Common.{◌≡◌, ℕ, List, [], ◌∷◌, refl, Decl, uses_in, Option, Some, None, subst, BeanDecl, ◌++◌, append_assoc}
+use Rattle.cdi_effective.proofs.Common.{option_or, ArePlaces, IsPlace, all_declared, last_declared, last_name, arith}
 use Rattle.cdi_effective.specs.{Places.AddsGained, declared.gained.Gained.Gained}
 
 -- with what these give it is what all of a chain give
@@ -21,12 +21,21 @@ or-assoc (Some n) y z = refl
 
 pub next-gives : (ds : List Decl) (old new : Gained) (bean : BeanDecl) (rest all : List BeanDecl) → AddsGained ds bean old new
     → GivesWith ds old (bean ∷ rest) all → GivesWith ds new rest all
-next-gives ds old new bean rest all adds gives = record {
-  name = ap (option_or (last_name ds rest)) adds.name ∙ or-assoc (last_name ds rest) (name_alone ds bean) old.name ∙ gives.name;
-  declared = ap (λ uses. uses ++ all_declared rest) adds.declared
-      ∙ append_assoc (uses_in old.declared.items) bean.attributes.qualifiers (all_declared rest) ∙ gives.declared;
-  last = ap (λ quals. last_declared quals rest) adds.last ∙ gives.last;
-}
+next-gives ds old new bean rest all adds gives =
+    grind (
+      arith,
+      adds.name,
+      old.name,
+      gives.name,
+      adds.declared,
+      old.declared.items,
+      bean.attributes.qualifiers,
+      gives.declared,
+      adds.last,
+      gives.last,
+      or-assoc,
+      append_assoc,
+    )
 
 pub next-gives-place : (ds : List Decl) (old new : Gained) (place : ℕ) (places more : List ℕ) (all : List BeanDecl)
     → ((bean : BeanDecl) → IsPlace ds place bean → AddsGained ds bean old new) → places ≡ place ∷ more

@@ -1,11 +1,10 @@
 -- What a bean gets by its chain rests on the beans of the chain.
 use Rattle.cdi_effective.proofs.Common.{◌≡◌, ℕ, Bool, true, false, cond, List, [], ◌∷◌, refl, ap, ◌∙◌, Decl, zero, suc, Option, Some, None}
-use Rattle.cdi_effective.proofs.Common.{inl, inr, cases_Bool, key_at, find_decl, limit, BeanDecl, has, as_bean, extended, bean_named}
-use Rattle.cdi_effective.proofs.Common.{specialized, on_from, chain_behind, behind, ◌++◌, option_or, last_name, name_alone, given_by}
-use Rattle.cdi_effective.proofs.Common.{flat_map, edits_keep_decl, avoid-first, avoid-second, avoid-head, default_name, edited_all}
-use Rattle.cdi_effective.proofs.Common.{edited_keys, is_among, Avoid, Attributes, Edit, stereotype_reads, type_reads, types_of}
-use Rattle.cdi_effective.proofs.Common.{edits_keep_stereotypes, bean_keys, specialized_reads, link_reads, chain_reads, given_of, name_of}
-use Rattle.std.proofs.lemmas.Bool.{both_ways}
+use Rattle.cdi_effective.proofs.Common.{inr, key_at, find_decl, BeanDecl, has, as_bean, extended, bean_named, specialized, on_from}
+use Rattle.cdi_effective.proofs.Common.{chain_behind, behind, ◌++◌, option_or, last_name, name_alone, given_by, flat_map, edits_keep_decl}
+use Rattle.cdi_effective.proofs.Common.{avoid-first, avoid-second, avoid-head, default_name, edited_all, edited_keys, is_among, Avoid}
+use Rattle.cdi_effective.proofs.Common.{Attributes, Edit, stereotype_reads, type_reads, types_of, edits_keep_stereotypes, bean_keys}
+use Rattle.cdi_effective.proofs.Common.{specialized_reads, link_reads, chain_reads, given_of, name_of, arith}
 use Rattle.cdi_model.specs.declared.decl.Kind.TheVariants as kinds
 use Rattle.cdi_match.proofs.{TypeLemmas.is_type_decides, TypeLemmas.types_of-has, LocalityLemmas.among-names}
 
@@ -18,11 +17,7 @@ module _ (edits : List Edit) (ds : List Decl) where
 
   -- what avoids the types of a type avoids the type
   pub type-kept : (t : List ℕ) → Avoid (type_reads ds t) edits → is_among (edited_keys edits) (key_at kinds.Type t) ≡ false
-  type-kept t avoid = elim (cases_Bool (is_among (edited_keys edits) (key_at kinds.Type t))) [
-    | inl among ↦ absurd (both_ways (is_among (type_reads ds t) (key_at kinds.Type t)) (avoid (key_at kinds.Type t) among)
-        (among-names kinds.Type (types_of ds t) t ∙ own-type ds t))
-    | inr none ↦ none
-  ]
+  type-kept t avoid = grind (arith, among-names, own-type)
 
   pub given-stays : (a : Attributes) → Avoid (stereotype_reads ds a.stereotypes) edits → given_of es a ≡ given_of ds a
   given-stays a avoid = ap given_by (edits_keep_stereotypes edits ds a.stereotypes avoid).1
@@ -33,8 +28,7 @@ module _ (edits : List Edit) (ds : List Decl) where
 
   stays-where : (b : Bool) (t t' : Option Decl) → t' ≡ t → Avoid (cond b (bean_keys (extended t)) []) edits
       → cond b (bean_named es (extended t')) None ≡ cond b (bean_named ds (extended t)) None
-  stays-where false t t' same avoid = refl
-  stays-where true t t' same avoid = ap (λ d. bean_named es (extended d)) same ∙ named-stays (extended t) avoid
+  stays-where t1 t t' same avoid = grind (arith, named-stays)
 
   pub specialized-stays : (c : BeanDecl) → is_among (edited_keys edits) (key_at kinds.Type c.name) ≡ false
       → Avoid (specialized_reads ds c) edits → specialized es c ≡ specialized ds c
@@ -90,10 +84,7 @@ module _ (edits : List Edit) (ds : List Decl) where
   pub behind-stays : (b : BeanDecl) → is_among (edited_keys edits) (key_at kinds.Type b.name) ≡ false → Avoid (chain_reads ds b) edits
       → behind es b ≡ behind ds b
   unfolding behind
-  behind-stays b typed avoid =
-      let rest = flat_map (link_reads ds) (behind ds b) in
-      steps-stay limit (b.name ∷ []) b (specialized-stays b typed (avoid-first edits (specialized_reads ds b) rest avoid))
-      (avoid-second edits (specialized_reads ds b) rest avoid)
+  behind-stays b typed avoid = grind (arith, b.name, steps-stay, specialized-stays, avoid-first, avoid-second)
 
   pub names-stay : (cs : List BeanDecl) → Avoid (flat_map (link_reads ds) cs) edits → last_name es cs ≡ last_name ds cs
   names-stay [] avoid = refl

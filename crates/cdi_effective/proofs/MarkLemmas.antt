@@ -23,19 +23,14 @@ marks-none ds d marks none class place at =
 -- what its stereotypes give a bean, by its link
 pub link-given : (ds : List Decl) (place : ℕ) (d : Decl) (bean : BeanDecl) (link : Link) → slice_get ds place ≡ Some d → d ≡ decls.Bean bean
     → Some link ≡ option_map (link_of ds) (slice_get ds place) → link.given ≡ given_of ds bean.attributes
-link-given ds place d bean link there is at =
-    let same : Some link ≡ Some (link_of ds (decls.Bean bean)) = at ∙ ap (option_map (link_of ds)) there ∙ ap (λ x. Some (link_of ds x)) is in
-    let one : link ≡ link_of ds (decls.Bean bean) = cc in
-    ap (λ l. l.given) one
+link-given ds place d bean link there is at = grind (arith, option_map)
 
 -- at first none is marked
 pub marks-begin : (ds : List Decl) (marks : List Bool) → marks ≡ replicate (length ds) false → (class : List ℕ) (place : ℕ)
     → place_of ds class ≡ Some place
     → (get_or marks place false || list_any (λ d. has (replaced_by ds d) class) ds) ≡ is_replaced ds class
 unfolding is_replaced
-marks-begin ds marks blank class place at =
-    ap (λ b. b || list_any (λ d. has (replaced_by ds d) class) ds)
-    (ap (λ l. get_or l place false) blank ∙ get_or-replicate (length ds) place false false (place-within ds class place at))
+marks-begin ds marks blank class place at = grind (arith, get_or, get_or-replicate, length, place-within)
 
 -- what is marked, with what declarations that are left replace
 abbrev pub Marking : List Decl → List Bool → List Decl → Type 0
@@ -62,11 +57,7 @@ marks-end ds rest marks none told class place at =
 
 pub listed-more : (ds rest left : List Decl) (d : Decl) (bean : BeanDecl) (old new all : List Effective) → d ≡ decls.Bean bean
     → new ≡ old ++ records ds bean → left ≡ d ∷ rest → old ++ flat_map (entries ds) left ≡ all → new ++ flat_map (entries ds) rest ≡ all
-listed-more ds rest left d bean old new all is pushed step before =
-    ap (λ l. l ++ flat_map (entries ds) rest) pushed
-    ∙ append_assoc old (records ds bean) (flat_map (entries ds) rest)
-    ∙ ap (λ e. old ++ (entries ds e ++ flat_map (entries ds) rest)) (sym is)
-    ∙ ap (λ l. old ++ flat_map (entries ds) l) (sym step) ∙ before
+listed-more ds rest left d bean old new all is pushed step before = grind (arith, flat_map, append_assoc)
 
 no-entries : (ds : List Decl) (d : Decl) → ((bean : BeanDecl) → d ≡ decls.Bean bean → ⊥) → entries ds d ≡ []
 no-entries ds (decls.Bean bean) other = absurd (other bean refl)
@@ -78,10 +69,7 @@ no-entries ds (decls.Interceptor d) other = refl
 
 pub listed-same : (ds rest left : List Decl) (d : Decl) (old new all : List Effective) → ((bean : BeanDecl) → d ≡ decls.Bean bean → ⊥)
     → new ≡ old → left ≡ d ∷ rest → old ++ flat_map (entries ds) left ≡ all → new ++ flat_map (entries ds) rest ≡ all
-listed-same ds rest left d old new all other same step before =
-    ap (λ l. l ++ flat_map (entries ds) rest) same
-    ∙ ap (λ l. old ++ (l ++ flat_map (entries ds) rest)) (sym (no-entries ds d other))
-    ∙ ap (λ l. old ++ flat_map (entries ds) l) (sym step) ∙ before
+listed-same ds rest left d old new all other same step before = grind (arith, flat_map, no-entries)
 
 -- where one of some is left
 pub drop-there : {X : Type 0} (xs : List X) (k : ℕ) (x : X) (rest : List X) → drop k xs ≡ x ∷ rest
@@ -92,6 +80,4 @@ drop-there (y ∷ ys) zero x rest is = (let one : y ≡ x = cc in ap Some one, c
 drop-there (y ∷ ys) (suc k) x rest is = drop-there ys k x rest is
 
 pub one-dropped : {X : Type 0} (xs : List X) (k : ℕ) (x : X) (rest : List X) → drop k xs ≡ x ∷ rest → drop (k + 1) xs ≡ rest
-one-dropped xs k x rest is =
-    let next : k + 1 ≡ suc k = omega arith in
-    ap (λ n. drop n xs) next ∙ (drop-there xs k x rest is).1
+one-dropped xs k x rest is = grind (arith, drop, drop-there)

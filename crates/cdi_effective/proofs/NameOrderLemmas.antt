@@ -1,11 +1,11 @@
 -- Uses in the order of their names, where these tell the order of their texts.
-use Rattle.cdi_effective.proofs.Common.{◌≡◌, ℕ, Bool, true, false, cond, List, [], ◌∷◌, refl, sym, ap, ◌∙◌, Qual, ◌⊎◌, subst, inl, inr}
-use Rattle.cdi_effective.proofs.Common.{arith, AllByRecursion, false≢true, or_cases, or_left, or_right, ◌++◌, nat_eq, Ordering, Less, Equal}
-use Rattle.cdi_effective.proofs.Common.{Greater, IsStrictWeakOrder, nat_list_cmp_total, is_lt, true≢false, common_steps, ranks_by}
-use Rattle.cdi_effective.proofs.Common.{same_name, turned_order, byte_order, text_of_use, name_of_use, same_qual, same_qual-decides, put}
-use Rattle.cdi_effective.proofs.Common.{sorted_by, each_once, has_use, in_text_order, is_before_in_name, is_before_in_text, tell_order}
-use Rattle.cdi_effective.proofs.Common.{all-sorted, any-sorted, Rises, sorted-rises}
-use Rattle.std.specs.{Cmp.nat_eq_equiv, Cmp.nat_cmp_is, Ordering.nat_cmp, Ordering.ordering_then}
+use Rattle.cdi_effective.proofs.Common.{◌≡◌, ℕ, Bool, true, false, List, [], ◌∷◌, refl, sym, ap, ◌∙◌, Qual, ◌⊎◌, subst, inl, inr, arith}
+use Rattle.cdi_effective.proofs.Common.{AllByRecursion, false≢true, or_cases, or_left, or_right, ◌++◌, nat_eq, Ordering, Less, Equal}
+use Rattle.cdi_effective.proofs.Common.{Greater, IsStrictWeakOrder, nat_list_cmp_total, is_lt, true≢false, ranks_by, same_name}
+use Rattle.cdi_effective.proofs.Common.{turned_order, byte_order, text_of_use, name_of_use, same_qual, same_qual-decides, put, sorted_by}
+use Rattle.cdi_effective.proofs.Common.{each_once, has_use, in_text_order, is_before_in_name, is_before_in_text, tell_order, all-sorted}
+use Rattle.cdi_effective.proofs.Common.{any-sorted, Rises, sorted-rises}
+use Rattle.std.specs.{Cmp.nat_eq_equiv, Cmp.nat_cmp_is, Ordering.nat_cmp}
 use Rattle.std.proofs.{Common.nat_lt, lemmas.Bool.and_parts}
 use Rattle.cdi_model.specs.{Bytes.opening, UseText.text_of_arguments, declared.quals.Arguments.Arguments}
 use Rattle.cdi_model.specs.declared.quals.Arguments.TheVariants as arguments
@@ -34,16 +34,7 @@ first-by-names : (x y a b : List ℕ) → Opens a → byte_order x y ≡ Less �
 first-by-names [] [] a b begun less tells = cc
 first-by-names [] (c ∷ ys) a b begun less tells = begins c (ys ++ b) a begun tells
 first-by-names (d ∷ xs) [] a b begun less tells = cc
-first-by-names (d ∷ xs) (c ∷ ys) a b begun less tells = by (nat_cmp d c) refl less (first-by-names xs ys a b begun)
-  where
-    by : (o : Ordering) → nat_cmp d c ≡ o → ordering_then o (byte_order xs ys) ≡ Less
-        → (byte_order xs ys ≡ Less → tells_order xs ys ≡ true → byte_order (xs ++ a) (ys ++ b) ≡ Less)
-        → byte_order ((d ∷ xs) ++ a) ((c ∷ ys) ++ b) ≡ Less
-    by Less e h more = rw e refl
-    by Equal e h more =
-        let same : nat_eq d c ≡ true = grind (arith, common_steps) in
-        rw e (more h (let rest : tells_order xs ys ≡ true = rw same at tells in rest))
-    by Greater e h more = cc
+first-by-names (d ∷ xs) (c ∷ ys) a b begun less tells = grind (arith, first-by-names xs ys a b begun, nat_eq)
 
 -- ---- uses whose names tell their order
 
@@ -58,13 +49,8 @@ Rise (u ∷ us) = IsFirst u us × Rise us
 first-of-all : (u v : Qual) (us : List Qual) → byte_order u.name v.name ≡ Less → byte_order (text_of_use u) (text_of_use v) ≡ Less
     → IsFirst v us → IsFirst u us
 first-of-all u v [] name text first = tt
-first-of-all u v (w ∷ us) name text first = (
-  (
-    nat_list_cmp_total.trans u.name v.name w.name name first.0.0,
-    nat_list_cmp_total.trans (text_of_use u) (text_of_use v) (text_of_use w) text first.0.1,
-  ),
-  first-of-all u v us name text first.1,
-)
+first-of-all u v (w ∷ us) name text first =
+    grind (arith, first-of-all u v us name text first.1, u.name, v.name, w.name, first.0.0, first.0.1, first.1, nat_list_cmp_total.trans)
 
 -- no name comes before that of an earlier one
 names-order : IsStrictWeakOrder is_before_in_name
@@ -96,11 +82,7 @@ names-tell (u ∷ v ∷ us) turn tells =
     (((name, text), first-of-all u v us name text rest.0), rest)
 
 itself-equal : (x : List ℕ) → is_lt (byte_order x x) ≡ false
-itself-equal x = by (byte_order x x) refl
-  where
-    by : (o : Ordering) → byte_order x x ≡ o → is_lt o ≡ false
-    by Less e = absurd (let other : Less ≡ Greater = sym e ∙ turned_order x x Less e in cc)
-    by other e = refl
+itself-equal x = grind (arith, turned_order)
 
 later : (x y : List ℕ) → byte_order x y ≡ Less → is_lt (byte_order y x) ≡ false
 later x y less = ap is_lt (turned_order x y Less less)
@@ -148,15 +130,11 @@ module _ (first second : Qual → Qual → Bool) where
 
   put-alike : (u : Qual) (us : List Qual) → AllByRecursion (λ v. first v u ≡ second v u) us → put first u us ≡ put second u us
   put-alike u [] alike = refl
-  put-alike u (v ∷ us) alike =
-      ap (λ b. cond b (v ∷ put first u us) (u ∷ v ∷ us)) alike.0
-      ∙ ap (λ rest. cond (second v u) (v ∷ rest) (u ∷ v ∷ us)) (put-alike u us alike.1)
+  put-alike u (v ∷ us) alike = grind (arith, put-alike u us alike.1, alike.0, alike.1)
 
   sorted-alike : (us : List Qual) → AreAlike us → sorted_by first us ≡ sorted_by second us
   sorted-alike [] alike = refl
-  sorted-alike (u ∷ us) alike =
-      put-alike u (sorted_by first us) (all-sorted first (λ v. first v u ≡ second v u) us alike.0)
-      ∙ ap (put second u) (sorted-alike us alike.1)
+  sorted-alike (u ∷ us) alike = grind (arith, sorted-alike us alike.1, alike.0, alike.1, put-alike, all-sorted)
 
   alike-to : (whole us : List Qual) (u : Qual) → has_use whole u ≡ true → ((v : Qual) → has_use us v ≡ true → has_use whole v ≡ true)
       → ((v w : Qual) → has_use whole v ≡ true → has_use whole w ≡ true → first v w ≡ second v w)

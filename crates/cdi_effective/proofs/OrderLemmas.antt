@@ -1,8 +1,8 @@
 -- The types of each bean of the bean list stand in order.
 use Rattle.cdi_effective.proofs.Common.{ℕ, List, [], ◌∷◌, Decl, Qual, Option, Some, None, AllByRecursion, BeanDecl, ◌++◌, map, flat_map}
 use Rattle.cdi_effective.proofs.Common.{Attributes, types_of, entries, Effective, is_replaced, byte_order, not, IsStrictlySortedBy}
-use Rattle.cdi_effective.proofs.Common.{All-from_recursion, ProducerDecl, class_bindings, is_kept, effective, managed_origin}
-use Rattle.cdi_effective.proofs.Common.{product_origin, product, managed, beans, Origin}
+use Rattle.cdi_effective.proofs.Common.{All-from_recursion, ProducerDecl, class_bindings, is_kept, effective, managed_origin, product}
+use Rattle.cdi_effective.proofs.Common.{beans, Origin, arith}
 use Rattle.std.proofs.lemmas.List.Kept.{IsStrictlySortedBy-filter}
 use Rattle.cdi_model.specs.declared.decl.Decl.TheVariants as decls
 use Rattle.cdi_match.proofs.TypeLemmas.{types_of-rises}
@@ -25,10 +25,7 @@ one-in-order ds origin attributes bindings = restricted-rises attributes.types (
 products-in-order : (ds : List Decl) (bean : BeanDecl) (ps : List ProducerDecl) (rest : List Effective) → AllByRecursion IsInOrder rest
     → AllByRecursion IsInOrder (map (product ds bean) ps ++ rest)
 products-in-order ds bean [] rest all = all
-products-in-order ds bean (p ∷ ps) rest all = (
-  one-in-order ds (product_origin ds bean (managed ds bean).is_enabled (managed ds bean).is_alternative p) p.attributes [],
-  products-in-order ds bean ps rest all,
-)
+products-in-order ds bean (p ∷ ps) rest all = grind (arith, products-in-order ds bean ps rest all, p.attributes, one-in-order)
 
 all-in-order : (ds es : List Decl) → AllByRecursion IsInOrder (flat_map (entries ds) es)
 all-in-order ds [] = tt

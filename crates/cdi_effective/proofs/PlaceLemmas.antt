@@ -1,10 +1,10 @@
 -- The places of beans among the declarations.
 use Rattle.cdi_effective.proofs.Common.{◌≡◌, ◌<◌, ℕ, Bool, true, false, cond, ◌||◌, List, [], ◌∷◌, length, refl, sym, ap, ◌∙◌, bytes_eq}
-use Rattle.cdi_effective.proofs.Common.{Decl, zero, suc, is_some, Option, Some, None, subst, inl, inr, arith, AllByRecursion, cases_Bool}
-use Rattle.cdi_effective.proofs.Common.{false≢true, key_of, name_of_decl, same_key, find_decl, BeanDecl, key_exact, has, one_text, as_bean}
-use Rattle.cdi_effective.proofs.Common.{find_bean, specialized, class_names, ◌++◌, ArePlaces, IsPlace, list_any, same_text, option_map}
-use Rattle.cdi_effective.proofs.Common.{slice_get, place_of, nat_eq, true≢false, slice_get_within, position-found, position-there}
-use Rattle.cdi_effective.proofs.Common.{place_of_next, nat_eq-same}
+use Rattle.cdi_effective.proofs.Common.{Decl, zero, suc, is_some, Option, Some, None, subst, arith, AllByRecursion, false≢true, key_of}
+use Rattle.cdi_effective.proofs.Common.{name_of_decl, same_key, find_decl, BeanDecl, key_exact, has, one_text, as_bean, find_bean}
+use Rattle.cdi_effective.proofs.Common.{specialized, class_names, ◌++◌, ArePlaces, IsPlace, list_any, same_text, option_map, slice_get}
+use Rattle.cdi_effective.proofs.Common.{place_of, nat_eq, true≢false, slice_get_within, position-found, position-there, place_of_next}
+use Rattle.cdi_effective.proofs.Common.{nat_eq-same}
 use Rattle.std.proofs.Common.{◌≢◌, position}
 use Rattle.std.proofs.lemmas.Option.{get_or_from_slice_get}
 use Rattle.base_lists.proofs.Places.{position-cons}
@@ -76,18 +76,7 @@ has-place ds bean found none =
 
 pub apart-by-place : (ds : List Decl) (class other : List ℕ) (p q : ℕ) → place_of ds other ≡ Some p → place_of ds class ≡ Some q
     → nat_eq q p ≡ bytes_eq other class
-apart-by-place ds class other p q at here = elim (cases_Bool (bytes_eq other class)) [
-  | inl same ↦
-      let one : other ≡ class = one_text other class same in
-      let there : Some p ≡ Some q = sym at ∙ ap (place_of ds) one ∙ here in
-      let equal : p ≡ q = cc in
-      ap (λ n. nat_eq q n) equal ∙ nat_eq-refl q ∙ sym same
-  | inr differ ↦ elim (cases_Bool (nat_eq q p)) [
-    | inl e ↦ absurd (true≢false (sym (same_text other class
-        (one_position kinds.Bean other class ds q (at ∙ ap Some (sym (nat_eq-same q p e))) here)) ∙ differ))
-    | inr e ↦ e ∙ sym differ
-  ]
-]
+apart-by-place ds class other p q at here = grind (arith, one_text, nat_eq, nat_eq-refl, true≢false, same_text, one_position, nat_eq-same)
 
 -- ---- the places of some beans
 
@@ -127,9 +116,4 @@ abbrev pub Next : List Decl → BeanDecl → ℕ → Type 0
 Next ds bean place = (next : BeanDecl) × (specialized ds bean ≡ Some next) × IsPlace ds place next
 
 pub the-next : (ds : List Decl) (bean : BeanDecl) (place : ℕ) → place_of_next ds (specialized ds bean) ≡ Some place → Next ds bean place
-the-next ds bean place at = by (specialized ds bean) refl
-  where
-    by : (o : Option BeanDecl) → specialized ds bean ≡ o → Next ds bean place
-    by None is = absurd (let no : None ≡ Some place = ap (place_of_next ds) (sym is) ∙ at in cc)
-    by (Some next) is =
-        (next, is, found-place ds next place (specialized-found ds bean next is) (ap (place_of_next ds) (sym is) ∙ at))
+the-next ds bean place at = grind (arith, found-place, specialized-found)

@@ -1,10 +1,10 @@
 -- What records rest on stays where edits name none of it.
 use Rattle.cdi_effective.proofs.Common.{◌≡◌, ℕ, false, cond, List, [], ◌∷◌, refl, ap, ◌∙◌, Decl, stereotype_decls, Qual}
-use Rattle.cdi_effective.proofs.Common.{stereotype_bindings, key_at, BeanDecl, extended, behind, ◌++◌, map, flat_map, edits_keep_decl}
-use Rattle.cdi_effective.proofs.Common.{avoid-first, avoid-second, avoid-head, edited_all, edited_keys, is_among, Avoid, Edit}
-use Rattle.cdi_effective.proofs.Common.{stereotype_reads, type_reads, edits_keep_stereotypes, bean_keys, specialized_reads, link_reads}
-use Rattle.cdi_effective.proofs.Common.{chain_reads, name_of_use, ProducerDecl, binding_reads, edits_keep_closure, bean_reads, class_reads}
-use Rattle.cdi_effective.proofs.Common.{product_reads, record_reads}
+use Rattle.cdi_effective.proofs.Common.{stereotype_bindings, key_at, BeanDecl, extended, ◌++◌, map, flat_map, edits_keep_decl, avoid-first}
+use Rattle.cdi_effective.proofs.Common.{avoid-second, avoid-head, edited_all, edited_keys, is_among, Avoid, Edit, stereotype_reads}
+use Rattle.cdi_effective.proofs.Common.{type_reads, edits_keep_stereotypes, bean_keys, specialized_reads, link_reads, chain_reads}
+use Rattle.cdi_effective.proofs.Common.{name_of_use, ProducerDecl, binding_reads, edits_keep_closure, bean_reads, class_reads}
+use Rattle.cdi_effective.proofs.Common.{product_reads, record_reads, arith}
 use Rattle.cdi_model.specs.declared.decl.Kind.TheVariants as kinds
 use Rattle.cdi_match.specs.Bindings.{brings_type, types_brought}
 use Rattle.cdi_match.proofs.{BindingLemmas.bindings_in, LocalityLemmas.keep_names}
@@ -79,12 +79,7 @@ module _ (edits : List Edit) (ds : List Decl) where
 
   chain-stays : (b : BeanDecl) → is_among (edited_keys edits) (key_at kinds.Type b.name) ≡ false → Avoid (chain_reads ds b) edits
       → chain_reads es b ≡ chain_reads ds b
-  chain-stays b typed avoid =
-      let next = specialized_reads ds b in
-      let rest = flat_map (link_reads ds) (behind ds b) in
-      ap (λ l. l ++ flat_map (link_reads es) (behind es b)) (specialized-reads-stay b typed)
-      ∙ ap (λ beans. next ++ flat_map (link_reads es) beans) (behind-stays edits ds b typed avoid)
-      ∙ ap (λ l. next ++ l) (links-stay (behind ds b) (avoid-second edits next rest avoid))
+  chain-stays b typed avoid = grind (arith, specialized-reads-stay, behind-stays, links-stay, avoid-second)
 
   -- edits of nothing that the records of a bean rest on leave what they rest on
   pub reads-stay : (bean : BeanDecl) → Avoid (record_reads ds bean) edits → record_reads es bean ≡ record_reads ds bean

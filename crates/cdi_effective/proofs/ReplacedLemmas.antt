@@ -1,7 +1,7 @@
 -- Which edits leave a bean replaced or not.
 use Rattle.cdi_effective.proofs.Common.{◌≡◌, ℕ, Bool, true, false, cond, List, [], ◌∷◌, refl, sym, ap, ◌∙◌, Decl, ◌⊎◌, inl, inr}
 use Rattle.cdi_effective.proofs.Common.{AllByRecursion, key_of, has, list_any, edited_all, edited_keys, is_among, Avoid, Edit, is_replaced}
-use Rattle.cdi_effective.proofs.Common.{replaced_by, DeclKey, flat_map}
+use Rattle.cdi_effective.proofs.Common.{replaced_by, DeclKey, flat_map, arith}
 use Rattle.cdi_model.proofs.GivingLemmas.{edits_keep_given}
 use Rattle.cdi_model.specs.declared.decl.Decl.TheVariants as decls
 use Rattle.cdi_effective.proofs.RecordLemmas.{leave-own}
@@ -14,12 +14,7 @@ is_there (d ∷ ds) = true
 -- one of some declarations passes a test where, of those that do, there is one
 some-there : (p : Decl → Bool) (ds : List Decl) → list_any p ds ≡ is_there (flat_map (λ d. cond (p d) (d ∷ []) []) ds)
 some-there p [] = refl
-some-there p (d ∷ ds) = by (p d) refl (some-there p ds)
-  where
-    by : (b : Bool) → p d ≡ b → list_any p ds ≡ is_there (flat_map (λ d. cond (p d) (d ∷ []) []) ds)
-        → list_any p (d ∷ ds) ≡ is_there (flat_map (λ d. cond (p d) (d ∷ []) []) (d ∷ ds))
-    by true e more = rw e refl
-    by false e more = rw e more
+some-there p (d ∷ ds) = grind (arith, some-there p ds)
 
 pub edits_keep_replaced : EditsKeepReplaced
 unfolding is_replaced

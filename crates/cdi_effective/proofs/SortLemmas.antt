@@ -1,21 +1,16 @@
 -- A stable sort leaves what is put in order one by one.
-use Rattle.cdi_effective.proofs.Common.{◌≡◌, ◌<◌, ℕ, Bool, true, false, cond, List, [], ◌∷◌, length, refl, sym, ap, ◌∙◌, zero, suc, subst}
-use Rattle.cdi_effective.proofs.Common.{inl, inr, arith, cases_Bool, ◌&&◌, map, IsStrictWeakOrder, put, sorted_by, not, true≢false, filter}
-use Rattle.cdi_effective.proofs.Common.{Rises, sorted-rises}
+use Rattle.cdi_effective.proofs.Common.{◌≡◌, ◌<◌, ℕ, Bool, true, false, cond, List, [], ◌∷◌, length, refl, sym, ap, ◌∙◌, zero, suc, arith}
+use Rattle.cdi_effective.proofs.Common.{◌&&◌, map, IsStrictWeakOrder, put, sorted_by, not, true≢false, filter, Rises, sorted-rises}
 use native.Mathlib.Numerals.{unary_clauses}
 use Rattle.std.specs.{Prelude.slice_index_or, List.Sorted.IsSortedBy, List.Sorted.IsStableBy, List.Sorted.ties}
 use Rattle.std.proofs.lemmas.List.Sorted.{sorted_far}
 use Rattle.base_lists.proofs.{Each.all-filter, Sorting.NoneBefore}
 
 both-not : (p q : Bool) → (not p && not q) ≡ true → (p ≡ false) × (q ≡ false)
-both-not false false h = (refl, refl)
-both-not false true h = absurd (true≢false (sym h))
-both-not true q h = absurd (true≢false (sym h))
+both-not t1 q h = grind (arith, true≢false)
 
 not-both : (p q : Bool) → p ≡ false → q ≡ false → (not p && not q) ≡ true
-not-both false false a b = refl
-not-both false true a b = absurd (true≢false b)
-not-both true q a b = absurd (true≢false a)
+not-both t1 q a b = grind (arith, true≢false)
 
 module _ {X : Type 0} where
   abbrev first-or : X → List X → X
@@ -28,13 +23,10 @@ module _ {X : Type 0} where
 
   swapped : (p q : Bool) (x y : X) (r : List X) → (p ≡ true → q ≡ false)
       → cond q (y ∷ cond p (x ∷ r) r) (cond p (x ∷ r) r) ≡ cond p (x ∷ cond q (y ∷ r) r) (cond q (y ∷ r) r)
-  swapped true true x y r h = absurd (true≢false (h refl))
-  swapped true false x y r h = refl
-  swapped false q x y r h = refl
+  swapped t1 q x y r h = grind (arith, true≢false)
 
   peeled : (p : Bool) (x : X) (r s : List X) → cond p (x ∷ r) r ≡ cond p (x ∷ s) s → r ≡ s
-  peeled true x r s e = ap rest-of e
-  peeled false x r s e = e
+  peeled t1 x r s e = grind arith
 
 module _ {X : Type 0} (lt : X → X → Bool) (o : IsStrictWeakOrder lt) where
   from-index : (x : X) (ys : List X) → ((k : ℕ) (d : X) → k < length ys → lt (slice_index_or ys k d) x ≡ false) → NoneBefore lt x ys
@@ -51,20 +43,11 @@ module _ {X : Type 0} (lt : X → X → Bool) (o : IsStrictWeakOrder lt) where
   -- ---- one by one
 
   never-both : (a x y : X) → lt y x ≡ true → ties lt a x ≡ true → ties lt a y ≡ false
-  never-both a x y e tx = elim (cases_Bool (ties lt a y)) [
-    | inl ty ↦ absurd (true≢false (sym e ∙ o.chain y a x (both-not (lt a y) (lt y a) ty).1 (both-not (lt a x) (lt x a) tx).0))
-    | inr f ↦ f
-  ]
+  never-both a x y e tx = grind (arith, true≢false, both-not)
 
   put-ties : (a x : X) (ys : List X) → filter (ties lt a) (put lt x ys) ≡ filter (ties lt a) (x ∷ ys)
   put-ties a x [] = refl
-  put-ties a x (y ∷ ys) = elim (cases_Bool (lt y x)) [
-    | inl e ↦
-        ap (λ (b : Bool). filter (ties lt a) (cond b (y ∷ put lt x ys) (x ∷ y ∷ ys))) e
-        ∙ ap (λ (r : List X). cond (ties lt a y) (y ∷ r) r) (put-ties a x ys)
-        ∙ swapped (ties lt a x) (ties lt a y) x y (filter (ties lt a) ys) (never-both a x y e)
-    | inr e ↦ ap (λ (b : Bool). filter (ties lt a) (cond b (y ∷ put lt x ys) (x ∷ y ∷ ys))) e
-  ]
+  put-ties a x (y ∷ ys) = grind (arith, put-ties a x ys, filter, swapped, never-both)
 
   sorted-ties : (a : X) (xs : List X) → filter (ties lt a) (sorted_by lt xs) ≡ filter (ties lt a) xs
   sorted-ties a [] = refl
@@ -73,26 +56,13 @@ module _ {X : Type 0} (lt : X → X → Bool) (o : IsStrictWeakOrder lt) where
   -- ---- order and ties leave no choice
 
   not-before-itself : (x : X) → lt x x ≡ false
-  not-before-itself x = elim (cases_Bool (lt x x)) [
-    | inl e ↦ o.one_way x x e
-    | inr f ↦ f
-  ]
+  not-before-itself x = grind arith
 
   own : (x : X) (xs : List X) → filter (ties lt x) (x ∷ xs) ≡ x ∷ filter (ties lt x) xs
-  own x xs =
-      ap (λ (b : Bool). cond b (x ∷ filter (ties lt x) xs) (filter (ties lt x) xs))
-      (not-both (lt x x) (lt x x) (not-before-itself x) (not-before-itself x))
+  own x xs = grind (arith, filter, not-both, not-before-itself)
 
   head-of : (y z : X) (zs ws : List X) → NoneBefore lt z zs → filter (ties lt y) (z ∷ zs) ≡ y ∷ ws → lt y z ≡ false
-  head-of y z zs ws h e = elim (cases_Bool (ties lt y z)) [
-    | inl t ↦ (both-not (lt y z) (lt z y) t).0
-    | inr f ↦
-        let stays : filter (ties lt y) zs ≡ y ∷ ws =
-        sym (ap (λ (b : Bool). cond b (z ∷ filter (ties lt y) zs) (filter (ties lt y) zs)) f) ∙ e in
-        let all : NoneBefore lt z (y ∷ ws) = subst (λ (l : List X). NoneBefore lt z l) stays
-        (all-filter (λ w. lt w z ≡ false) (ties lt y) zs h) in
-        all.0
-  ]
+  head-of y z zs ws h e = grind (arith, both-not, filter, all-filter)
 
   unique : (ys zs : List X) → Rises lt ys → Rises lt zs → ((x : X) → filter (ties lt x) ys ≡ filter (ties lt x) zs) → ys ≡ zs
   unique [] [] ry rz same = refl
@@ -120,15 +90,7 @@ sorted_from_sort lt o xs ys sorted stable =
 put-map : {X Y : Type 0} (f : X → Y) (lt : Y → Y → Bool) (x : X) (ys : List X)
     → map f (put (λ a b. lt (f a) (f b)) x ys) ≡ put lt (f x) (map f ys)
 put-map f lt x [] = refl
-put-map {X = X} {Y = Y} f lt x (y ∷ ys) =
-    let placed : List X = put (λ a b. lt (f a) (f b)) x ys in
-    let behind : Bool → List Y = λ b. cond b (f y ∷ put lt (f x) (map f ys)) (f x ∷ f y ∷ map f ys) in
-    elim (cases_Bool (lt (f y) (f x))) [
-      | inl e ↦
-          ap (λ (b : Bool). map f (cond b (y ∷ placed) (x ∷ y ∷ ys))) e
-          ∙ ap (λ (r : List Y). f y ∷ r) (put-map f lt x ys) ∙ sym (ap behind e)
-      | inr e ↦ ap (λ (b : Bool). map f (cond b (y ∷ placed) (x ∷ y ∷ ys))) e ∙ sym (ap behind e)
-    ]
+put-map {X = X} {Y = Y} f lt x (y ∷ ys) = grind (arith, put-map f lt x ys, map)
 
 pub sorted_map : {X Y : Type 0} (f : X → Y) (lt : Y → Y → Bool) (xs : List X)
     → map f (sorted_by (λ a b. lt (f a) (f b)) xs) ≡ sorted_by lt (map f xs)

@@ -1,7 +1,7 @@
 -- A chain, step by step.
 use Rattle.cdi_effective.proofs.Common.{◌≡◌, ℕ, Bool, true, false, cond, ◌||◌, List, [], ◌∷◌, refl, sym, ap, ◌∙◌, Decl, zero, suc, Some}
 use Rattle.cdi_effective.proofs.Common.{None, limit, BeanDecl, has, specialized, on_from, chain_behind, behind, class_names, ◌++◌}
-use Rattle.cdi_effective.proofs.Common.{append_assoc, replaced_by}
+use Rattle.cdi_effective.proofs.Common.{append_assoc, replaced_by, arith}
 use Rattle.std.proofs.Common.{append-nil}
 use Rattle.cdi_model.specs.declared.decl.Decl.TheVariants as decls
 use Rattle.cdi_effective.specs.Specialized.{is_offered}
@@ -18,25 +18,18 @@ pub ends-met : (n : ℕ) (ds : List Decl) (met : Names) (b s : BeanDecl) → spe
     → chain_behind n ds met b ≡ []
 unfolding chain_behind
 ends-met zero ds met b s is known = refl
-ends-met (suc n) ds met b s is known =
-    ap (on_from met (λ s. chain_behind n ds (s.name ∷ met) s)) is
-    ∙ ap (λ k. cond {A = List BeanDecl} k [] (s ∷ chain_behind n ds (s.name ∷ met) s)) known
+ends-met (suc n) ds met b s is known = grind (arith, s.name)
 
 goes-on : (n : ℕ) (ds : List Decl) (met : Names) (b s : BeanDecl) → specialized ds b ≡ Some s → has met s.name ≡ false
     → chain_behind (suc n) ds met b ≡ s ∷ chain_behind n ds (s.name ∷ met) s
 unfolding chain_behind
-goes-on n ds met b s is new =
-    ap (on_from met (λ s. chain_behind n ds (s.name ∷ met) s)) is
-    ∙ ap (λ k. cond {A = List BeanDecl} k [] (s ∷ chain_behind n ds (s.name ∷ met) s)) new
+goes-on n ds met b s is new = grind (arith, s.name)
 
 -- one bean more
 pub one-more : (n m : ℕ) (ds : List Decl) (met : Names) (b s : BeanDecl) (list whole : List BeanDecl) → n ≡ suc m
     → specialized ds b ≡ Some s → has met s.name ≡ false → list ++ chain_behind n ds met b ≡ whole
     → (list ++ s ∷ []) ++ chain_behind m ds (s.name ∷ met) s ≡ whole
-one-more n m ds met b s list whole less is new before =
-    append_assoc list (s ∷ []) (chain_behind m ds (s.name ∷ met) s)
-    ∙ ap (λ rest. list ++ rest) (sym (goes-on m ds met b s is new))
-    ∙ ap (λ k. list ++ chain_behind k ds met b) (sym less) ∙ before
+one-more n m ds met b s list whole less is new before = grind (arith, s.name, append_assoc, goes-on)
 
 pub none-behind : (ds : List Decl) (b : BeanDecl) → b.specializes ≡ false → behind ds b ≡ []
 unfolding behind
@@ -54,18 +47,13 @@ unfolding chain_behind
 no-steps n ds met b none = ap (λ k. chain_behind k ds met b) none
 
 pub either : (b x : Bool) → cond b true x ≡ (b || x)
-either true x = refl
-either false x = refl
+either t1 x = grind arith
 
 -- ---- what is replaced
 
 pub none-specialized : (ds : List Decl) (b : BeanDecl) → b.specializes ≡ false → replaced_by ds (decls.Bean b) ≡ []
 unfolding replaced_by
-none-specialized ds b none = by (is_offered ds b)
-  where
-    by : (o : Bool) → cond {A = Names} o (class_names (behind ds b)) [] ≡ []
-    by true = ap class_names (none-behind ds b none)
-    by false = refl
+none-specialized ds b none = grind (arith, none-behind)
 
 pub none-offered : (ds : List Decl) (b : BeanDecl) → is_offered ds b ≡ false → replaced_by ds (decls.Bean b) ≡ []
 unfolding replaced_by

@@ -1,6 +1,6 @@
 -- The records of a declaration in the bean list.
-use Rattle.cdi_effective.proofs.Common.{◌≡◌, ◌+◌, ℕ, Bool, true, false, cond, List, [], ◌∷◌, drop, refl, ap, ◌∙◌, bytes_eq, Decl, suc}
-use Rattle.cdi_effective.proofs.Common.{arith, BeanDecl, find_bean, ◌++◌, map, flat_map, entries, records, Effective, bytes_eq-turned}
+use Rattle.cdi_effective.proofs.Common.{◌≡◌, ◌+◌, ℕ, Bool, true, false, cond, List, [], ◌∷◌, drop, refl, ap, ◌∙◌, bytes_eq, Decl, arith}
+use Rattle.cdi_effective.proofs.Common.{BeanDecl, find_bean, ◌++◌, map, flat_map, entries, records, Effective, bytes_eq-turned}
 use Rattle.cdi_effective.proofs.Common.{ProducerDecl, effective, product, managed, beans}
 use Rattle.std.specs.List.{position_or_len, take_while}
 use Rattle.std.proofs.lemmas.List.Sums.{take_while-cons}
@@ -14,11 +14,7 @@ from_class class beans = drop (position_or_len (is_of_class class) beans) beans
 at-bean : (class : List ℕ) (bean : Effective) (more : List Effective) (b : Bool) → is_of_class class bean ≡ b
     → from_class class (bean ∷ more) ≡ cond b (bean ∷ more) (from_class class more)
 unfolding from_class
-at-bean class bean more true e = rw e refl
-at-bean class bean more false e =
-    let place : ℕ = position_or_len (is_of_class class) more in
-    let next : 1 + place ≡ suc place = omega arith in
-    rw e (ap (λ i. drop i (bean ∷ more)) next)
+at-bean class bean more t1 e = grind (arith, drop)
 
 product-passes : (ds : List Decl) (bean : BeanDecl) (p : ProducerDecl) → is_product (product ds bean p) ≡ true
 unfolding effective

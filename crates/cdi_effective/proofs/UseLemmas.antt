@@ -2,10 +2,10 @@
 use Rattle.cdi_effective.proofs.Common.{◌≡◌, ◌<◌, ◌+◌, ℕ, Bool, true, false, cond, ◌||◌, List, [], ◌∷◌, length, drop, get_or, refl, sym, ap}
 use Rattle.cdi_effective.proofs.Common.{◌∙◌, or_assoc, Bor, at_drop_more, Qual, uses_in, zero, suc, inl, inr, arith, AllByRecursion}
 use Rattle.cdi_effective.proofs.Common.{IsDistinct, false≢true, or_cases, or_left, or_right, AllPairs-from_IsDistinct, ◌++◌, fold, list_any}
-use Rattle.cdi_effective.proofs.Common.{or-false, map, Ordering, Less, Equal, Greater, nat_list_cmp_total, is_lt, ranks_by, same_name}
-use Rattle.cdi_effective.proofs.Common.{turned_order, byte_order, text_of_use, same_qual, same_qual-decides, put, sorted_by, each_once}
-use Rattle.cdi_effective.proofs.Common.{has_use, in_text_order, is_before_in_text, IsStrictlySortedBy, All-from_recursion, map-append}
-use Rattle.cdi_effective.proofs.Common.{with_use, all-sorted, any-sorted, Rises, sorted-rises}
+use Rattle.cdi_effective.proofs.Common.{or-false, map, Less, nat_list_cmp_total, is_lt, ranks_by, same_name, turned_order, byte_order}
+use Rattle.cdi_effective.proofs.Common.{text_of_use, same_qual, same_qual-decides, put, sorted_by, each_once, has_use, in_text_order}
+use Rattle.cdi_effective.proofs.Common.{is_before_in_text, IsStrictlySortedBy, All-from_recursion, map-append, with_use, all-sorted}
+use Rattle.cdi_effective.proofs.Common.{any-sorted, Rises, sorted-rises}
 use Rattle.std.proofs.{Math.Bool.or-true, lemmas.Bool.false_from_ne_true, lemmas.List.Folds.list_any-append}
 use Rattle.std.specs.List.{AllPairs}
 use Rattle.std.proofs.lemmas.Map.Keys.{IsDistinct-push}
@@ -26,18 +26,11 @@ absorbed p (v ∷ us) u among is =
     ]
 
 any-with_use : (p : Qual → Bool) (us : List Qual) (u : Qual) → list_any p (with_use us u) ≡ (list_any p us || p u)
-any-with_use p us u = by (has_use us u) refl (p u) refl
-  where
-    by : (b : Bool) → has_use us u ≡ b → (c : Bool) → p u ≡ c → list_any p (cond b us (us ++ u ∷ [])) ≡ (list_any p us || p u)
-    by false e c f = list_any-append p us (u ∷ []) ∙ ap (λ b. list_any p us || b) (or-false (p u))
-    by true e true f = absorbed p us u e f ∙ sym (ap (λ b. list_any p us || b) f ∙ or-true (list_any p us))
-    by true e false f = sym (ap (λ b. list_any p us || b) f ∙ or-false (list_any p us))
+any-with_use p us u = grind (arith, list_any-append, or-false, absorbed, or-true)
 
 any-once : (p : Qual → Bool) (us seen : List Qual) → list_any p (fold with_use seen us) ≡ (list_any p seen || list_any p us)
 any-once p [] seen = sym (or-false (list_any p seen))
-any-once p (u ∷ us) seen =
-    any-once p us (with_use seen u) ∙ ap (λ b. b || list_any p us) (any-with_use p seen u)
-    ∙ or_assoc (list_any p seen) (p u) (list_any p us)
+any-once p (u ∷ us) seen = grind (arith, any-once p us (with_use seen u), any-with_use, or_assoc)
 
 -- a test passes for one of the uses in order exactly where it does for one of the uses
 pub any-in_text_order : (p : Qual → Bool) (us : List Qual) → list_any p (in_text_order us) ≡ list_any p us
@@ -62,11 +55,7 @@ module _ {X Y : Type 0} (f : X → Y) where
 
   put-apart : (before : X → X → Bool) (x : X) (ys : List X) → AllByRecursion (λ y. f x ≡ f y → ⊥) ys → Apart ys → Apart (put before x ys)
   put-apart before x [] all apart = (tt, tt)
-  put-apart before x (y ∷ ys) all apart = by (before y x) (put-apart before x ys all.1 apart.1)
-    where
-      by : (b : Bool) → Apart (put before x ys) → Apart (cond b (y ∷ put before x ys) (x ∷ y ∷ ys))
-      by true rest = (all-put before (λ z. f y ≡ f z → ⊥) x ys (λ e. all.0 (sym e)) apart.0, rest)
-      by false rest = (all, apart)
+  put-apart before x (y ∷ ys) all apart = grind (arith, put-apart before x ys all.1 apart.1, all.1, apart.1, all.0, apart.0, all-put)
 
   sorted-apart : (before : X → X → Bool) (xs : List X) → Apart xs → Apart (sorted_by before xs)
   sorted-apart before [] apart = tt
@@ -127,26 +116,14 @@ module _ {X : Type 0} (text : X → List ℕ) where
   below-put : (t : List ℕ) (x : X) (ys : List X) → byte_order t (text x) ≡ Less → AllByRecursion (λ s. byte_order t s ≡ Less) (map text ys)
       → AllByRecursion (λ s. byte_order t s ≡ Less) (map text (put earlier x ys))
   below-put t x [] here all = (here, tt)
-  below-put t x (y ∷ ys) here all = by (earlier y x) (below-put t x ys here all.1)
-    where
-      by : (b : Bool) → AllByRecursion (λ s. byte_order t s ≡ Less) (map text (put earlier x ys))
-          → AllByRecursion (λ s. byte_order t s ≡ Less) (map text (cond b (y ∷ put earlier x ys) (x ∷ y ∷ ys)))
-      by true rest = (all.0, rest)
-      by false rest = (here, all)
+  below-put t x (y ∷ ys) here all = grind (arith, below-put t x ys here all.1, all.1, all.0, map)
 
   put-texts : (x : X) (ys : List X) → AllByRecursion (λ y. text x ≡ text y → ⊥) ys → IsStrictlySortedBy byte_order (map text ys)
       → IsStrictlySortedBy byte_order (map text (put earlier x ys))
   unfolding IsStrictlySortedBy
   put-texts x [] apart rise = (tt, tt)
-  put-texts x (y ∷ ys) apart rise = by (byte_order (text y) (text x)) refl (put-texts x ys apart.1 rise.1)
-    where
-      by : (o : Ordering) → byte_order (text y) (text x) ≡ o → IsStrictlySortedBy byte_order (map text (put earlier x ys))
-          → IsStrictlySortedBy byte_order (map text (cond (is_lt o) (y ∷ put earlier x ys) (x ∷ y ∷ ys)))
-      by Less e rest = (below-put (text y) x ys e rise.0, rest)
-      by Equal e rest = absurd (apart.0 (sym (same_name (text y) (text x) e)))
-      by Greater e rest =
-          let before : byte_order (text x) (text y) ≡ Less = turned_order (text y) (text x) Greater e in
-          ((before, before-all (text x) (text y) (map text ys) before rise.0), rise)
+  put-texts x (y ∷ ys) apart rise =
+      grind (arith, put-texts x ys apart.1 rise.1, apart.1, rise.1, rise.0, apart.0, map, below-put, same_name, turned_order, before-all)
 
   sorted-texts : (xs : List X) → Apart text xs → IsStrictlySortedBy byte_order (map text (sorted_by earlier xs))
   unfolding IsStrictlySortedBy
@@ -203,9 +180,7 @@ any-lent p (u ∷ us) = ap (λ b. p u.now || b) (any-lent p us)
 -- one more use is put into it where it is not there
 lent-with : (found : List (Bor Qual)) (u : Bor Qual) (b : Bool) → b ≡ has_use (uses_in found) u.now
     → uses_in (cond b found (found ++ u ∷ [])) ≡ with_use (uses_in found) u.now
-lent-with found u true e = ap (λ b. cond b (uses_in found) (uses_in found ++ u.now ∷ [])) e
-lent-with found u false e = map-append (λ (v : Bor Qual). v.now) found (u ∷ [])
-    ∙ ap (λ b. cond b (uses_in found) (uses_in found ++ u.now ∷ [])) e
+lent-with found u t1 e = grind (arith, u.now, map-append)
 
 pub once-next : (us : List (Bor Qual)) (i : ℕ) (u : Bor Qual) (found after : List (Bor Qual)) (all : List Qual) → i < length us
     → u ≡ get_or us i u

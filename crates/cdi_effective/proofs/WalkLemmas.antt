@@ -1,9 +1,9 @@
 -- The walk along the places of a chain.
 use Rattle.cdi_effective.proofs.Common.{◌≡◌, ◌<◌, ℕ, Bool, true, false, ◌||◌, List, [], ◌∷◌, length, get_or, refl, sym, ap, ◌∙◌, bytes_eq}
-use Rattle.cdi_effective.proofs.Common.{Decl, suc, is_some, Option, Some, None, subst, inl, inr, arith, cases_Bool, find_decl, limit}
-use Rattle.cdi_effective.proofs.Common.{BeanDecl, has, specialized, chain_behind, behind, ◌++◌, ArePlaces, IsPlace, replicate}
-use Rattle.cdi_effective.proofs.Common.{get_or-replicate, place_of, nat_eq, true≢false, slice_get_within, position-found, position-there}
-use Rattle.cdi_effective.proofs.Common.{place_of_next, set, length-replicate, or_left, nat_eq-same}
+use Rattle.cdi_effective.proofs.Common.{Decl, suc, is_some, Some, None, subst, inl, inr, arith, cases_Bool, limit, BeanDecl, has}
+use Rattle.cdi_effective.proofs.Common.{specialized, chain_behind, behind, ◌++◌, ArePlaces, IsPlace, replicate, get_or-replicate, place_of}
+use Rattle.cdi_effective.proofs.Common.{nat_eq, true≢false, slice_get_within, position-found, position-there, place_of_next, set}
+use Rattle.cdi_effective.proofs.Common.{length-replicate, or_left, nat_eq-same}
 use Rattle.std.proofs.lemmas.{Option.slice_get-get_or, List.get_or-set_same, List.get_or-set_other, List.length-set}
 use Rattle.cdi_model.specs.declared.decl.Decl.TheVariants as decls
 use Rattle.cdi_model.specs.declared.decl.Kind.TheVariants as kinds
@@ -26,18 +26,13 @@ pub record Walks (ds : List Decl) (b : BeanDecl) (places : List ℕ) (met : List
   pub rest : front ++ chain_behind left ds names bean ≡ behind ds b
 
 pub place-within : (ds : List Decl) (class : List ℕ) (place : ℕ) → place_of ds class ≡ Some place → place < length ds
-place-within ds class place at = by (find_decl kinds.Bean class ds) refl
-  where
-    by : (o : Option Decl) → find_decl kinds.Bean class ds ≡ o → place < length ds
-    by None e = absurd (true≢false (sym (ap is_some at) ∙ position-found kinds.Bean class ds ∙ ap is_some e))
-    by (Some d) e = slice_get_within ds place d (position-there kinds.Bean class ds place at ∙ e)
+place-within ds class place at = grind (arith, length, true≢false, is_some, position-found, slice_get_within, position-there)
 
 other-nat : (m n : ℕ) → nat_eq m n ≡ false → m ≡ n → ⊥
 other-nat m n e same = grind arith
 
 or-other : (a b : Bool) → a ≡ false → (a || b) ≡ b
-or-other true b e = absurd (true≢false e)
-or-other false b e = refl
+or-other t1 b e = grind (arith, true≢false)
 
 -- one more is met
 pub told-more : (ds : List Decl) (names : List (List ℕ)) (met : List Bool) (place : ℕ) (bean : BeanDecl) → place < length met
@@ -61,11 +56,7 @@ told-none ds class place at = get_or-replicate (length ds) place false false (pl
 -- what stands within a list does not go by what stands for what is past it
 pub known-there : (met : List Bool) (place : ℕ) (other : Bool) → place < length met → get_or met place other ≡ true
     → get_or met place false ≡ true
-known-there met place other within known =
-    let same : Some (get_or met place false) ≡ Some (get_or met place other) =
-    sym (slice_get-get_or met place false within) ∙ slice_get-get_or met place other within in
-    let one : get_or met place false ≡ get_or met place other = cc in
-    one ∙ known
+known-there met place other within known = grind (arith, get_or, slice_get-get_or)
 
 pub none-places : (ds : List Decl) (places : List ℕ) (beans : List BeanDecl) → places ≡ [] → beans ≡ [] → ArePlaces ds places beans
 none-places ds [] [] none empty = tt
@@ -119,9 +110,7 @@ walk-over ds b places met last left walk none = ends ds b places met last left w
 pub next-within : (ds : List Decl) (b : BeanDecl) (places : List ℕ) (met : List Bool) (last left next : ℕ)
     → Walks ds b places met last left → next_at ds last ≡ Some next → next < length met
 next-within ds b places met last left next walk at =
-    let to = the-next ds walk.bean next (sym (link-at ds last walk.bean walk.here) ∙ at) in
-    let within : next < length ds = slice_get_within ds next (decls.Bean to.0) to.2.1 in
-    omega (arith, within, walk.sized)
+    grind (arith, walk.bean, walk.here, walk.sized, the-next, link-at, length, slice_get_within)
 
 pub walk-goes-on : (ds : List Decl) (b : BeanDecl) (places more : List ℕ) (met new : List Bool) (last left less next : ℕ)
     → Walks ds b places met last left → next_at ds last ≡ Some next → get_or met next false ≡ false → left ≡ suc less

@@ -30,9 +30,7 @@ types_brought-is ds types list rise has_just = led-is kinds.Binding bindings_in 
 -- no use brings none
 pub none_brought : (ds : List Decl) (uses : List Qual) → uses ≡ [] → uses ≡ with_brought ds uses
 unfolding with_brought brings_type IsStrictlySortedBy
-none_brought ds uses none =
-    let no_types : [] ≡ types_brought ds [] = types_brought-is ds [] [] tt (λ b. refl) in
-    none ∙ ap (flat_map (brought ds)) no_types ∙ sym (ap (with_brought ds) none)
+none_brought ds uses none = grind (arith, types_brought-is, flat_map)
 
 -- the uses, and what the declarations of the types declare that they bring
 pub brought_behind : (ds : List Decl) (uses : List Qual) (types : List (List ℕ)) → types ≡ types_brought ds (map name_of_use uses)

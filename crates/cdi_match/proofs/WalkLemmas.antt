@@ -1,18 +1,17 @@
 -- The search that keeps positions: what one more found declaration changes, and what is found when none is left.
 use Rattle.cdi_match.proofs.Common.{◌≡◌, ◌<◌, ◌+◌, ℕ, zero, suc, Bool, true, false, not, cond, List, [], ◌∷◌, ◌++◌, length, Option, Some}
-use Rattle.cdi_match.proofs.Common.{None, is_some, refl, sym, ◌∙◌, subst, inl, inr, ap, arith, length-append, ◌⊎◌, position, slice_index_or}
-use Rattle.cdi_match.proofs.Common.{slice_set, filter, option_to_list, bytes_eq, or_cases, or_left, or_right, cases_Bool, false≢true}
-use Rattle.cdi_match.proofs.Common.{both_ways, same_from_decides, one_text, same_text, HasOneMore, name_of_decl, find_decl, is_of, Decl}
-use Rattle.cdi_match.proofs.Common.{Kind, Links, Walk, ChainFromOne, Steps, has, leads, Adds, Closing, is_led_to, next_of, declared_among}
-use Rattle.cdi_match.proofs.Common.{has_mark, IsWalking, Meets, HasMarks, tasks}
+use Rattle.cdi_match.proofs.Common.{None, is_some, refl, sym, ◌∙◌, subst, inl, inr, ap, arith, length-append, position, slice_index_or}
+use Rattle.cdi_match.proofs.Common.{slice_set, filter, option_to_list, bytes_eq, or_cases, or_left, or_right, false≢true, both_ways}
+use Rattle.cdi_match.proofs.Common.{same_from_decides, one_text, same_text, HasOneMore, name_of_decl, find_decl, is_of, Decl, Kind, Links}
+use Rattle.cdi_match.proofs.Common.{Walk, ChainFromOne, Steps, has, leads, Adds, Closing, is_led_to, next_of, declared_among, has_mark}
+use Rattle.cdi_match.proofs.Common.{IsWalking, Meets, HasMarks, tasks}
 use Rattle.std.proofs.Common.{◌≢◌, option_map, zero-add, slice_get}
 use Rattle.std.proofs.lemmas.{Bool.cases_eq, List.get_or-set_same, List.get_or-set_other, List.length-set, List.Concat.flat_map-append}
 use Rattle.cdi_positions.proofs.MarkLemmas.{length-marked_from, marked_from-none, marked_from-set, marked_from-unset}
 use Rattle.cdi_positions.specs.Marks.{marked_count, marked_from}
 use Rattle.cdi_model.proofs.PositionLemmas.{name-found, one_position, position-found, position-there}
 use Rattle.cdi_model.specs.DeclList.{limit}
-use Rattle.cdi_match.proofs.SearchLemmas.{Adds-again, Adds-new, Adds-none, Adds-then, Closing-all, Closing-start, Closing-step}
-use Rattle.cdi_match.proofs.SearchLemmas.{is_led_to_decides}
+use Rattle.cdi_match.proofs.SearchLemmas.{Adds-again, Adds-new, Closing-all, Closing-step, is_led_to_decides}
 use Rattle.cdi_match.specs.Walk.{has_met, names_at, names_left, next_declared}
 use Rattle.cdi_match.specs.Search.{kind_of, listed_by}
 use Rattle.cdi_match.specs.declared.followers.Links.TheVariants as links
@@ -36,17 +35,8 @@ marked-more : (kind : Kind) (ds : List Decl) (marks : List Bool) (name : List �
     → i < length marks → (s : List ℕ)
     → has_mark (slice_set marks i true) (position (is_of kind s) ds)
     ≡ cond (bytes_eq name s) true (has_mark marks (position (is_of kind s) ds))
-marked-more kind ds marks name i at within s = by (bytes_eq name s) refl (position (is_of kind s) ds) refl
-  where
-    by : (b : Bool) → bytes_eq name s ≡ b → (o : Option ℕ) → position (is_of kind s) ds ≡ o
-        → has_mark (slice_set marks i true) (position (is_of kind s) ds)
-        ≡ cond (bytes_eq name s) true (has_mark marks (position (is_of kind s) ds))
-    by true e o f =
-        let there : position (is_of kind s) ds ≡ Some i = ap (λ n. position (is_of kind n) ds) (sym (one_text name s e)) ∙ at in
-        rw (e, there) (get_or-set_same marks i true false within)
-    by false e None f = rw (e, f) refl
-    by false e (Some j) f = rw (e, f) (marked_at marks i j (λ same.
-        both_ways (bytes_eq name s) e (same_text name s (one_position kind name s ds i at (f ∙ ap Some same)))))
+marked-more kind ds marks name i at within s =
+    grind (arith, position, slice_set, one_text, get_or-set_same, marked_at, same_text, one_position)
 
 -- a name that is marked already
 marked-again : (kind : Kind) (ds : List Decl) (marks : List Bool) (name : List ℕ) → has_mark marks (position (is_of kind name) ds) ≡ true
@@ -67,12 +57,7 @@ declared-one which ds name is = rw is refl
 
 declared-cons : (which : Links) (ds : List Decl) (name : List ℕ) (names : List (List ℕ))
     → declared_among which ds (name ∷ []) ++ declared_among which ds names ≡ declared_among which ds (name ∷ names)
-declared-cons which ds name names = by (is_some (find_decl (kind_of which) name ds)) refl
-  where
-    by : (b : Bool) → is_some (find_decl (kind_of which) name ds) ≡ b
-        → declared_among which ds (name ∷ []) ++ declared_among which ds names ≡ declared_among which ds (name ∷ names)
-    by true e = rw e refl
-    by false e = rw e refl
+declared-cons which ds name names = grind (arith, is_some)
 
 -- one position more gives its name
 names-one : (ds : List Decl) (name : List ℕ) (i : ℕ) (xs ys : List ℕ) → option_to_list (option_map name_of_decl (slice_get ds i)) ≡ name ∷ []
@@ -87,10 +72,7 @@ names-one ds name i xs ys at more = (
 
 -- one position more where nothing is declared gives none
 names-same : (ds : List Decl) (i : ℕ) (xs ys : List ℕ) → slice_get ds i ≡ None → HasOneMore i xs ys → names_at ds ys ≡ names_at ds xs
-names-same ds i xs ys none more =
-    ap (names_at ds) more.3 ∙ flat_map-append (λ p. option_to_list (option_map name_of_decl (slice_get ds p))) more.0 (i ∷ more.1)
-    ∙ ap (λ o. names_at ds more.0 ++ (option_to_list (option_map name_of_decl o) ++ names_at ds more.1)) none
-    ∙ sym (flat_map-append (λ p. option_to_list (option_map name_of_decl (slice_get ds p))) more.0 more.1) ∙ sym (ap (names_at ds) more.2)
+names-same ds i xs ys none more = grind (arith, more.3, more.0, more.1, more.2, flat_map-append, option_map, slice_get)
 
 -- the name that stands at the place of a name is that name
 name-at : (kind : Kind) (ds : List Decl) (name : List ℕ) (i : ℕ) → position (is_of kind name) ds ≡ Some i
@@ -113,32 +95,28 @@ one_left marks i within unmarked =
 
 longer : (i : ℕ) (marks marks' : List Bool) → HasOneMore i (marked_from 0 marks) (marked_from 0 marks')
     → marked_count marks' ≡ marked_count marks + 1
-longer i marks marks' more =
-    omega (
-      arith,
-      length-marked_from 0 marks,
-      length-marked_from 0 marks',
-      ap length more.2,
-      ap length more.3,
-      length-append more.0 more.1,
-      length-append more.0 (i ∷ more.1),
-    )
+longer i marks marks' more = grind (arith, more.2, more.3, more.0, more.1, length-marked_from, length, length-append)
 
 HasMarks-set : (old new : Walk) (i : ℕ) → new.marks ≡ slice_set old.marks i true → new.left ≡ slice_set old.left i true → i < limit
     → HasMarks old → HasMarks new
-HasMarks-set old new i marked put bound has = record {
-  sized = ap length marked ∙ length-set old.marks i true ∙ has.sized;
-  left_sized = ap length put ∙ length-set old.left i true ∙ has.left_sized;
-  within = λ j is. at j is (cases_eq j i);
-}
-  where
-    at : (j : ℕ) → slice_index_or new.left j false ≡ true → ((j ≡ i) ⊎ (j ≢ i)) → slice_index_or new.marks j false ≡ true
-    at j is (inl same) =
-        ap (λ ms. slice_index_or ms j false) marked ∙ ap (λ k. slice_index_or (slice_set old.marks i true) k false) same
-        ∙ get_or-set_same old.marks i true false (omega (arith, bound, has.sized))
-    at j is (inr other) =
-        ap (λ ms. slice_index_or ms j false) marked ∙ marked_at old.marks i j other
-        ∙ has.within j (sym (marked_at old.left i j other) ∙ sym (ap (λ ms. slice_index_or ms j false) put) ∙ is)
+HasMarks-set old new i marked put bound has =
+    grind (
+      arith,
+      old.marks,
+      has.sized,
+      old.left,
+      has.left_sized,
+      new.left,
+      new.marks,
+      has.within,
+      length,
+      length-set,
+      cases_eq,
+      slice_index_or,
+      slice_set,
+      get_or-set_same,
+      marked_at,
+    )
 
 pub Meets-new : (which : Links) (ds : List Decl) (name : List ℕ) (old new : Walk) (i : ℕ)
     → position (is_of (kind_of which) name) ds ≡ Some i → i < limit → HasMarks old → slice_index_or old.marks i false ≡ false
@@ -186,23 +164,12 @@ Meets-again which ds name w i at was =
     }
 
 pub Meets-none : (which : Links) (ds : List Decl) (w : Walk) → Meets which ds [] w w
-Meets-none which ds w = record {
-  adds = Adds-none (has_met which ds w) (names_left ds w);
-  kept = λ has. has;
-  same_tasks = refl;
-}
+Meets-none which ds w = grind arith
 
 -- a name is found, and then others
 pub Meets-cons : (which : Links) (ds : List Decl) (name : List ℕ) (names : List (List ℕ)) (a b c : Walk)
     → Meets which ds (name ∷ []) a b → Meets which ds names b c → Meets which ds (name ∷ names) a c
-Meets-cons which ds name names a b c m n = record {
-  adds = subst (λ all. Adds all (has_met which ds a) (names_left ds a) (has_met which ds c)
-      (names_left ds c)) (declared-cons which ds name names)
-      (Adds-then (declared_among which ds (name ∷ [])) (declared_among which ds names) (has_met which ds a) (names_left ds a)
-      (has_met which ds b) (names_left ds b) (has_met which ds c) (names_left ds c) m.adds n.adds);
-  kept = λ has. n.kept (m.kept has);
-  same_tasks = n.same_tasks ∙ m.same_tasks;
-}
+Meets-cons which ds name names a b c m n = grind (arith, m.adds, n.adds, n.kept, m.kept, n.same_tasks, m.same_tasks, declared-cons)
 
 -- ---- a walk
 
@@ -210,10 +177,7 @@ Meets-cons which ds name names a b c m n = record {
 pub walk-start : (which : Links) (ds : List Decl) (starts : List (List ℕ)) (old new : Walk)
     → ((o : Option ℕ) → has_mark old.marks o ≡ false) → marked_count old.left ≡ 0 → Meets which ds starts old new
     → IsWalking which ds starts new
-walk-start which ds starts old new none empty m =
-    Closing-start (next_declared which ds) (declared_among which ds starts) (has_met which ds old) (names_left ds old)
-    (has_met which ds new) (names_left ds new)
-    (λ s. none (position (is_of (kind_of which) s) ds)) (ap (names_at ds) (marked_from-none 0 old.left empty)) m.adds
+walk-start which ds starts old new none empty m = grind (arith, old.left, m.adds, position, marked_from-none)
 
 -- one that was left is taken
 one_taken : (old new : Walk) (p : ℕ) → slice_index_or old.left p false ≡ true → new.left ≡ slice_set old.left p false
@@ -229,9 +193,7 @@ fewer-tasks old new p same was taken =
 
 still : (which : Links) (ds : List Decl) (starts : List (List ℕ)) (w popped : Walk) → popped.marks ≡ w.marks → IsWalking which ds starts w
     → Closing (next_declared which ds) (declared_among which ds starts) (has_met which ds popped) (names_left ds w)
-still which ds starts w popped same walking =
-    subst (λ ms. Closing (next_declared which ds) (declared_among which ds starts) (λ s. has_mark ms (position (is_of (kind_of which) s) ds))
-    (names_left ds w)) (sym same) walking
+still which ds starts w popped same walking = grind (arith, position)
 
 -- what follows it is found
 pub walk-step : (which : Links) (ds : List Decl) (starts : List (List ℕ)) (w popped new : Walk) (p : ℕ) (d : Decl)
@@ -261,15 +223,7 @@ walk-gone which ds starts w popped p walking same was taken none =
 has-among : (which : Links) (ds : List Decl) (names : List (List ℕ)) (y : List ℕ) → has (declared_among which ds names) y ≡ true
     → has names y ≡ true
 has-among which ds [] y h = h
-has-among which ds (n ∷ ns) y h = by (is_some (find_decl (kind_of which) n ds)) refl (has-among which ds ns y)
-  where
-    by : (b : Bool) → is_some (find_decl (kind_of which) n ds) ≡ b → (has (declared_among which ds ns) y ≡ true → has ns y ≡ true)
-        → has (n ∷ ns) y ≡ true
-    by false e more = or_right (bytes_eq n y) (has ns y) (more (rw e at h))
-    by true e more = elim (or_cases (bytes_eq n y) (has (declared_among which ds ns) y) (rw e at h)) [
-      | inl here ↦ or_left (bytes_eq n y) (has ns y) here
-      | inr there ↦ or_right (bytes_eq n y) (has ns y) (more there)
-    ]
+has-among which ds (n ∷ ns) y h = grind (arith, has-among which ds ns y, is_some)
 
 among-has : (which : Links) (ds : List Decl) (names : List (List ℕ)) (y : List ℕ) → is_some (find_decl (kind_of which) y ds) ≡ true
     → has names y ≡ true → has (declared_among which ds names) y ≡ true
@@ -299,19 +253,12 @@ listed-none other = refl
 -- what is not declared lists nothing
 next-undeclared : (which : Links) (ds : List Decl) (x : List ℕ) → is_some (find_decl (kind_of which) x ds) ≡ false
     → next_of which ds x ≡ []
-next-undeclared which ds x none = next-listed which ds x ∙ by (find_decl (kind_of which) x ds) none
-  where
-    by : (o : Option Decl) → is_some o ≡ false → listed_by which o ≡ []
-    by None e = listed-none which
-    by (Some d) e = absurd (false≢true (sym e))
+next-undeclared which ds x none = grind (arith, next-listed, is_some, listed-none, false≢true)
 
 -- a name that another follows is declared
 owner : (which : Links) (ds : List Decl) (x y : List ℕ) → leads (next_of which ds) x y ≡ true
     → is_some (find_decl (kind_of which) x ds) ≡ true
-owner which ds x y h = elim (cases_Bool (is_some (find_decl (kind_of which) x ds))) [
-  | inl is ↦ is
-  | inr none ↦ absurd (false≢true (ap (λ names. has names y) (sym (next-undeclared which ds x none)) ∙ h))
-]
+owner which ds x y h = grind (arith, is_some, false≢true, next-undeclared)
 
 steps-lift : (which : Links) (ds : List Decl) (n : ℕ) (x y : List ℕ) → Steps (leads (next_declared which ds)) n x y
     → Steps (leads (next_of which ds)) n x y
@@ -324,9 +271,7 @@ steps-declared : (which : Links) (ds : List Decl) (n : ℕ) (x y : List ℕ) →
     → Steps (leads (next_of which ds)) n x y
     → Steps (leads (next_declared which ds)) n x y × (is_some (find_decl (kind_of which) x ds) ≡ true)
 steps-declared which ds zero x y is c = (c, subst (λ z. is_some (find_decl (kind_of which) z ds) ≡ true) (sym c) is)
-steps-declared which ds (suc n) x y is c =
-    let rest = steps-declared which ds n c.0 y is c.2 in
-    ((c.0, among-has which ds (next_of which ds x) c.0 rest.1 c.1, rest.0), owner which ds x c.0 c.1)
+steps-declared which ds (suc n) x y is c = grind (arith, steps-declared which ds n c.0 y is c.2, c.0, c.2, c.1, among-has, owner)
 
 -- a chain leads to what was found
 pub walk-sound : (which : Links) (ds : List Decl) (starts : List (List ℕ)) (w : Walk) (s : List ℕ) → IsWalking which ds starts w
@@ -369,10 +314,7 @@ led-none which ds starts s none is = by (is_led_to which ds starts s) refl
 -- no chain leads back
 pub back-none : (which : Links) (ds : List Decl) (s : List ℕ) → next_declared which ds s ≡ []
     → is_led_to which ds (next_of which ds s) s ≡ false
-back-none which ds s none = elim (cases_Bool (is_some (find_decl (kind_of which) s ds))) [
-  | inl is ↦ led-none which ds (next_of which ds s) s none is
-  | inr is ↦ ap (λ names. is_led_to which ds names s) (next-undeclared which ds s is)
-]
+back-none which ds s none = grind (arith, is_some, led-none, next-undeclared)
 
 -- ---- the first that is declared
 
@@ -384,12 +326,4 @@ among-one which ds name names is = rw is refl
 pub Meets-first : (which : Links) (ds : List Decl) (name : List ℕ) (names all : List (List ℕ)) (i : ℕ) (a b c : Walk)
     → position (is_of (kind_of which) name) ds ≡ Some i → declared_among which ds all ≡ name ∷ declared_among which ds names
     → Meets which ds (name ∷ []) a b → Meets which ds names b c → Meets which ds all a c
-Meets-first which ds name names all i a b c at first m n =
-    let is = sym (position-found (kind_of which) name ds) ∙ ap is_some at in
-    let both = Meets-cons which ds name names a b c m n in
-    record {
-      adds = subst (λ declared. Adds declared (has_met which ds a) (names_left ds a) (has_met which ds c) (names_left ds c))
-          (among-one which ds name names is ∙ sym first) both.adds;
-      kept = both.kept;
-      same_tasks = both.same_tasks;
-    }
+Meets-first which ds name names all i a b c at first m n = grind (arith, position-found, is_some, among-one)
