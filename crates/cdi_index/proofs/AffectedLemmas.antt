@@ -1,13 +1,13 @@
 -- Which declarations edits affect, and that what is made of the others stays.
 use Rattle.cdi_index.proofs.Common.{any-same, any-or, and-false, ◌≡◌, ℕ, Bool, true, false, ◌&&◌, ◌||◌, List, [], ◌∷◌, map, Option, Some}
-use Rattle.cdi_index.proofs.Common.{None, option_map, refl, sym, ap, ◌∙◌, list_any, or_parts, BeanDecl, BindingDecl, Decl, Kind, Edit}
-use Rattle.cdi_index.proofs.Common.{DeclKey, key_at, same_key, find_decl, edited_all, edited_keys, is_among, edits_keep_decl, key_exact}
-use Rattle.cdi_index.proofs.Common.{Qual, name_of_use, find_binding, own_records, Effective, as_bean, find_bean, record_reads, replaced_by}
-use Rattle.cdi_index.proofs.Common.{Made, is_kept, made_of, made_of_bean, made_of_binding, made_of_interceptor, made_of_type, reads}
+use Rattle.cdi_index.proofs.Common.{None, option_map, refl, sym, ap, ◌∙◌, list_any, or_parts, BeanDecl, Decl, Kind, Edit, DeclKey, key_at}
+use Rattle.cdi_index.proofs.Common.{same_key, edited_all, edited_keys, is_among, edits_keep_decl, key_exact, Qual, name_of_use, own_records}
+use Rattle.cdi_index.proofs.Common.{Effective, as_bean, find_bean, record_reads, replaced_by, Made, is_kept, made_of, made_of_bean, reads}
+use Rattle.cdi_index.proofs.Common.{arith}
 use Rattle.cdi_model.specs.Edits.{Avoid}
 use Rattle.cdi_model.specs.declared.decl.Kind.TheVariants as kinds
 use Rattle.cdi_model.specs.declared.decl.Decl.TheVariants as decls
-use Rattle.cdi_match.specs.{Bindings.brings_type, Bindings.types_brought, Filling.as_binding, Locality.binding_reads}
+use Rattle.cdi_match.specs.{Bindings.brings_type, Bindings.types_brought, Locality.binding_reads}
 use Rattle.cdi_match.proofs.{BindingLemmas.bindings_in, LocalityLemmas.edits_keep_closure, LocalityLemmas.keep_names}
 use Rattle.cdi_effective.proofs.RecordLemmas.{edits_keep_own_records}
 use Rattle.cdi_index.proofs.ChangeLemmas.{none-of}
@@ -19,11 +19,7 @@ abbrev pub hits : List Decl → DeclKey → DeclKey → Bool
 hits ds k key = (is_kept key.kind && same_key key k) || reads (made_of ds k) key
 
 kept_same : (key k : DeclKey) → (is_kept key.kind && same_key key k) ≡ (is_kept k.kind && same_key key k)
-kept_same key k = by (same_key key k) refl
-  where
-    by : (b : Bool) → same_key key k ≡ b → (is_kept key.kind && b) ≡ (is_kept k.kind && b)
-    by true e = ap (λ (x : DeclKey). is_kept x.kind && true) (key_exact key k e)
-    by false e = and-false (is_kept key.kind) ∙ sym (and-false (is_kept k.kind))
+kept_same key k = grind (arith, key.kind, k.kind, key_exact, and-false)
 
 any-and : (b : Bool) (p : DeclKey → Bool) (keys : List DeclKey) → list_any (λ x. b && p x) keys ≡ (b && list_any p keys)
 any-and true p keys = refl
@@ -67,25 +63,7 @@ bindings-stay edits ds us avoid =
 stays : (ds : List Decl) (edits : List Edit) (kind : Kind) (name : List ℕ)
     → list_any (hits ds (key_at kind name)) (edited_keys edits) ≡ false
     → made_of (edited_all ds edits) (key_at kind name) ≡ made_of ds (key_at kind name)
-stays ds edits kinds.Type name none =
-    let k = key_at kinds.Type name in
-    let parts = or_parts (is_among (edited_keys edits) k) (list_any (reads (made_of ds k)) (edited_keys edits))
-    (sym (hit-parts ds (edited_keys edits) k) ∙ none) in
-    by (find_decl kinds.Type name ds) refl (edits_keep_decl edits ds kinds.Type name parts.0) parts.1
-  where
-    by : (o : Option Decl) → find_decl kinds.Type name ds ≡ o
-        → find_decl kinds.Type name (edited_all ds edits) ≡ find_decl kinds.Type name ds
-        → list_any (reads (option_map (λ d. made_of_type ds name) (find_decl kinds.Type name ds))) (edited_keys edits) ≡ false
-        → option_map (λ d. made_of_type (edited_all ds edits) name) (find_decl kinds.Type name (edited_all ds edits))
-        ≡ option_map (λ d. made_of_type ds name) (find_decl kinds.Type name ds)
-    by None e same unread = ap (option_map (λ d. made_of_type (edited_all ds edits) name)) (same ∙ e)
-        ∙ sym (ap (option_map (λ d. made_of_type ds name)) e)
-    by (Some d) e same unread =
-        let unread_types : list_any (reads (Some (made_of_type ds name))) (edited_keys edits) ≡ false =
-        ap (λ o. list_any (reads (option_map (λ d. made_of_type ds name) o)) (edited_keys edits)) (sym e) ∙ unread in
-        ap (option_map (λ d. made_of_type (edited_all ds edits) name)) (same ∙ e)
-        ∙ ap (λ types. Some (made_with types)) (edits_keep_closure edits ds name (avoids edits (Some (made_of_type ds name)) unread_types))
-        ∙ sym (ap (option_map (λ d. made_of_type ds name)) e)
+stays ds edits kinds.Type name none = grind (arith, hit-parts, edits_keep_decl, edits_keep_closure, avoids)
 stays ds edits kinds.Bean name none =
     let k = key_at kinds.Bean name in
     let parts = or_parts (is_among (edited_keys edits) k) (list_any (reads (made_of ds k)) (edited_keys edits))
@@ -110,31 +88,9 @@ stays ds edits kinds.Bean name none =
         ∙ ap (λ rs. Some (bean_with bean (record_reads ds bean) (replaced_by ds (decls.Bean bean)) rs)) leave.records
         ∙ sym (ap (option_map (made_of_bean ds)) e)
 stays ds edits kinds.Qualifier name none = refl
-stays ds edits kinds.Binding name none =
-    let k = key_at kinds.Binding name in
-    let parts = or_parts (is_among (edited_keys edits) k) (list_any (reads (made_of ds k)) (edited_keys edits))
-    (sym (hit-parts ds (edited_keys edits) k) ∙ none) in
-    by (find_binding name ds) refl (ap as_binding (edits_keep_decl edits ds kinds.Binding name parts.0)) parts.1
-  where
-    by : (o : Option BindingDecl) → find_binding name ds ≡ o
-        → find_binding name (edited_all ds edits) ≡ find_binding name ds
-        → list_any (reads (option_map (made_of_binding ds) (find_binding name ds))) (edited_keys edits) ≡ false
-        → option_map (made_of_binding (edited_all ds edits)) (find_binding name (edited_all ds edits))
-        ≡ option_map (made_of_binding ds) (find_binding name ds)
-    by None e same unread = ap (option_map (made_of_binding (edited_all ds edits))) (same ∙ e)
-        ∙ sym (ap (option_map (made_of_binding ds)) e)
-    by (Some d) e same unread =
-        let unread_binding : list_any (reads (Some (made_of_binding ds d))) (edited_keys edits) ≡ false =
-        ap (λ o. list_any (reads (option_map (made_of_binding ds) o)) (edited_keys edits)) (sym e) ∙ unread in
-        ap (option_map (made_of_binding (edited_all ds edits))) (same ∙ e)
-        ∙ ap (λ rs. Some (binding_with rs)) (bindings-stay edits ds d.declares (avoids edits (Some (made_of_binding ds d)) unread_binding))
-        ∙ sym (ap (option_map (made_of_binding ds)) e)
+stays ds edits kinds.Binding name none = grind (arith, hit-parts, edits_keep_decl, bindings-stay, avoids)
 stays ds edits kinds.Stereotype name none = refl
-stays ds edits kinds.Interceptor name none =
-    let k = key_at kinds.Interceptor name in
-    let parts = or_parts (is_among (edited_keys edits) k) (list_any (reads (made_of ds k)) (edited_keys edits))
-    (sym (hit-parts ds (edited_keys edits) k) ∙ none) in
-    ap (option_map made_of_interceptor) (edits_keep_decl edits ds kinds.Interceptor name parts.0)
+stays ds edits kinds.Interceptor name none = grind (arith, hit-parts, edits_keep_decl)
 
 pub made-stays : (ds : List Decl) (edits : List Edit) (k : DeclKey) → list_any (hits ds k) (edited_keys edits) ≡ false
     → made_of (edited_all ds edits) k ≡ made_of ds k

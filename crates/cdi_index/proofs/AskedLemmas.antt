@@ -1,12 +1,12 @@
 -- The declarations that ask for a bean of a type, or for who observes an event of it, are found by its word.
 use Rattle.cdi_index.proofs.Common.{◌≡◌, ℕ, Bool, true, false, ◌&&◌, ◌||◌, List, [], ◌∷◌, map, Option, Some, None, option_map, refl, sym}
-use Rattle.cdi_index.proofs.Common.{ap, ◌∙◌, list_any, Decl, DeclKey, key_at, find_decl, is_among, Qual, own_records, as_bean, made_of_bean}
+use Rattle.cdi_index.proofs.Common.{ap, ◌∙◌, list_any, Decl, DeclKey, key_at, find_decl, is_among, Qual, as_bean, made_of_bean}
 use Rattle.cdi_index.proofs.Common.{made_of_interceptor, not, ◌++◌, flat_map, option_map_or, option_to_list, bytes_eq, and_from, and_parts}
 use Rattle.cdi_index.proofs.Common.{false≢true, or_cases, or_left, or_right, list_any-append, inl, inr, key_of, kind_of, name_of_decl}
 use Rattle.cdi_index.proofs.Common.{AreDistinct, mentions, Mention, BodyOf, CallOf, EventOf, MethodOf, PointOf, StereotypeOf, TypeIn, UseOf}
 use Rattle.cdi_index.proofs.Common.{required, Word, Listing, under, same_word, word_at, asks_for, asks_in, is_asked, bytes_eq-turned}
 use Rattle.cdi_index.proofs.Common.{is_asker_at, Asked, Kept, Shelf, kept_at, stored, IsExact, IsShelf, IsSound, words_have, words_named}
-use Rattle.cdi_index.proofs.Common.{words_named_in, words_of_observer, words_of_record, words_of_uses, words_by, same-bool}
+use Rattle.cdi_index.proofs.Common.{words_named_in, words_of_uses, words_by, same-bool, arith}
 use Rattle.std.specs.Cmp.Lexicographic.{pointwise}
 use Rattle.cdi_model.specs.declared.{decl.TypeDecl.TypeDecl, decl.UseKind.UseKind, mention.TypePlace.TypePlace}
 use Rattle.cdi_model.specs.{SameUse.same_qual, Mentions.of_bindings}
@@ -99,11 +99,7 @@ module _ (q : Question) (t : List ℕ) (us : List Qual) where
   pub words-of-asker : (ds : List Decl) (d : Decl) (w : Word) → asks_for q t us d ≡ true → words_have (words_named d) w ≡ true
       → words_have (words_by ds d) w ≡ true
   unfolding asks_for mentions
-  words-of-asker ds (decls.Bean b) w asking has =
-      let own : List Word = flat_map words_of_record (own_records ds b) in
-      let more : List Word = flat_map words_of_observer b.observers in
-      list_any-append (λ v. same_word v w) (own ++ more) (words_named (decls.Bean b))
-      ∙ or_right (words_have (own ++ more) w) (words_have (words_named (decls.Bean b)) w) has
+  words-of-asker ds (decls.Bean b) w asking has = grind (arith, b.observers, list_any-append)
   words-of-asker ds (decls.Interceptor i) w asking has = has
   words-of-asker ds (decls.Type d) w asking has = absurd (false≢true (sym (neither (extends d) (map (TypeIn places.Implements) d.implements)
       (no-type places.Extends (option_to_list d.extends)) (no-type places.Implements d.implements)) ∙ asking))

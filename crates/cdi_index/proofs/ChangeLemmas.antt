@@ -1,8 +1,8 @@
 -- Changes that are taken over one after another, and those that are made of declarations.
 use Rattle.cdi_index.proofs.Common.{◌≡◌, ℕ, Bool, true, false, ◌&&◌, ◌||◌, List, [], ◌∷◌, map, Option, Some, None, option_map, refl, sym}
 use Rattle.cdi_index.proofs.Common.{ap, ◌∙◌, list_any, Decl, Kind, DeclKey, same_key, is_among, key_exact, Made, made_of, ◌++◌, false≢true}
-use Rattle.cdi_index.proofs.Common.{or_left, or_right, suc, ◌+◌, cond, length, filter, is_some, slice_get, same_key_equiv, Change}
-use Rattle.cdi_index.proofs.Common.{is_of_kind, Stored, made_in, applied, change_of, is_made, stored_as, any-same}
+use Rattle.cdi_index.proofs.Common.{suc, ◌+◌, cond, length, filter, is_some, slice_get, same_key_equiv, Change, is_of_kind, Stored, made_in}
+use Rattle.cdi_index.proofs.Common.{applied, change_of, is_made, stored_as, any-same, arith}
 use Rattle.std.proofs.Math.Nat.{add-zero, add-suc, suc-add}
 
 abbrev pub StoredBy : Type 0
@@ -30,9 +30,7 @@ slide n m = suc-add n m ∙ sym (add-suc n m)
 applied-push : (n : ℕ) (cs : List Change) (c : Change) (m : StoredBy) (k : DeclKey)
     → applied n (cs ++ c ∷ []) m k ≡ applied n cs (λ l. cond (same_key c.key l) (stored_as (n + length cs) c) (m l)) k
 applied-push n [] c m k = ap (λ i. cond (same_key c.key k) (stored_as i c) (m k)) (sym (add-zero n))
-applied-push n (d ∷ cs) c m k = ap (λ o. cond (same_key d.key k) (stored_as n d) o)
-    (applied-push (suc n) cs c m k
-    ∙ ap (λ i. applied (suc n) cs (λ l. cond (same_key c.key l) (stored_as i c) (m l)) k) (slide n (length cs)))
+applied-push n (d ∷ cs) c m k = grind (arith, applied-push (suc n) cs c m k, d.key, c.key, slide)
 
 pub applied-same : (n : ℕ) (cs : List Change) (m o : StoredBy) → ((k : DeclKey) → m k ≡ o k) → (k : DeclKey)
     → applied n cs m k ≡ applied n cs o k
@@ -43,18 +41,12 @@ applied-same n (c ∷ cs) m o h k = ap (λ x. cond (same_key c.key k) (stored_as
 pub applied-next : (n : ℕ) (cs rest : List Change) (c : Change) (m o : StoredBy) → cs ≡ rest ++ c ∷ []
     → ((k : DeclKey) → o k ≡ cond (same_key c.key k) (stored_as (n + length rest) c) (m k))
     → (k : DeclKey) → applied n rest o k ≡ applied n cs m k
-applied-next n cs rest c m o is made k =
-    applied-same n rest o (λ l. cond (same_key c.key l) (stored_as (n + length rest) c) (m l)) made k
-    ∙ sym (applied-push n rest c m k) ∙ ap (λ xs. applied n xs m k) (sym is)
+applied-next n cs rest c m o is made k = grind (arith, c.key, applied-same, applied-push)
 
 -- ---- changes that are made of the declarations of some keys
 
 made-as : (n : ℕ) (c : Change) → made_in (stored_as n c) ≡ c.made
-made-as n c = by c.made
-  where
-    by : (o : Option Made) → made_in (option_map {U = Stored} (λ made. (n, made)) o) ≡ o
-    by None = refl
-    by (Some made) = refl
+made-as n c = grind (arith, c.made)
 
 -- what is kept after them is what is made, and of other declarations what was kept
 pub applied-made : (n : ℕ) (es : List Decl) (ks : List DeclKey) (m : StoredBy) (k : DeclKey)
@@ -98,15 +90,7 @@ applied-comes n es (l ∷ ks) m k s made e = by (same_key l k) refl e (applied-c
 pub count-made : (kind : Kind) (es : List Decl) (ks : List DeclKey)
     → length (filter (is_made kind) (map (change_of es) ks)) ≡ length (filter (λ k. is_of_kind kind k && is_some (made_of es k)) ks)
 count-made kind es [] = refl
-count-made kind es (k ∷ ks) = by (is_of_kind kind k && is_some (made_of es k)) (count-made kind es ks)
-  where
-    by : (b : Bool)
-        → length (filter (is_made kind) (map (change_of es) ks)) ≡ length (filter (λ k. is_of_kind kind k && is_some (made_of es k)) ks)
-        → length (cond b (change_of es k ∷ filter (is_made kind) (map (change_of es) ks)) (filter (is_made kind) (map (change_of es) ks)))
-        ≡ length (cond b (k ∷ filter (λ k. is_of_kind kind k && is_some (made_of es k)) ks)
-        (filter (λ k. is_of_kind kind k && is_some (made_of es k)) ks))
-    by true more = ap suc more
-    by false more = more
+count-made kind es (k ∷ ks) = grind (arith, count-made kind es ks)
 
 -- ---- keys among others
 
@@ -128,8 +112,4 @@ none-of p (l ∷ keys) key none among = by (same_key l key) refl (p l) refl (non
 
 pub any-of : (p : DeclKey → Bool) (keys : List DeclKey) (key : DeclKey) → p key ≡ true → is_among keys key ≡ true → list_any p keys ≡ true
 any-of p [] key passes among = absurd (false≢true among)
-any-of p (l ∷ keys) key passes among = by (same_key l key) refl (any-of p keys key passes)
-  where
-    by : (b : Bool) → same_key l key ≡ b → (is_among keys key ≡ true → list_any p keys ≡ true) → list_any p (l ∷ keys) ≡ true
-    by true e more = or_left (p l) (list_any p keys) (ap p (key_exact l key e) ∙ passes)
-    by false e more = or_right (p l) (list_any p keys) (more (sym (ap (λ x. x || is_among keys key) e) ∙ among))
+any-of p (l ∷ keys) key passes among = grind (arith, any-of p keys key passes, key_exact)

@@ -46,7 +46,6 @@ unfoldable pub use Rattle.cdi_effective.specs.Beans.{beans}
 pub use Rattle.cdi_effective.specs.Disposers.{as_bean, find_bean}
 pub use Rattle.cdi_effective.specs.Reads.{record_reads}
 unfoldable pub use Rattle.cdi_effective.specs.Specialized.{replaced_by, is_replaced}
-pub use Rattle.cdi_effective.specs.Records.{records_declared}
 unfoldable pub use Rattle.cdi_effective.specs.Records.{records_in}
 pub use Rattle.cdi_effective.specs.Qualifiers.{required}
 pub use Rattle.cdi_effective.proofs.RecordLemmas.{records_are_own}

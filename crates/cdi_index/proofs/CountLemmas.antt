@@ -2,7 +2,7 @@
 use Rattle.cdi_index.proofs.Common.{◌≡◌, ℕ, Bool, true, false, ◌&&◌, ◌||◌, List, [], ◌∷◌, map, Option, Some, None, option_map, refl, sym}
 use Rattle.cdi_index.proofs.Common.{ap, ◌∙◌, list_any, BeanDecl, Decl, Kind, Edit, DeclKey, key_at, same_key, find_decl, edited_all}
 use Rattle.cdi_index.proofs.Common.{edited_keys, is_among, edits_keep_decl, key_exact, find_bean, record_reads, made_of, made_of_bean}
-use Rattle.cdi_index.proofs.Common.{made_of_type, reads, not, false≢true, key_of, AreDistinct, suc, cond, length, filter, is_some}
+use Rattle.cdi_index.proofs.Common.{made_of_type, reads, not, false≢true, key_of, AreDistinct, cond, length, filter, is_some}
 use Rattle.cdi_index.proofs.Common.{same_key_equiv, is_of_kind, change_of, is_made, ◌≢◌, ◌<◌, nat_eq, arith, AllByRecursion, IsDistinct}
 use Rattle.cdi_index.proofs.Common.{length-map, type_reads, computed, is_recorded, and-false}
 use Rattle.std.specs.{Bool.Decides, List.AllPairs}
@@ -12,19 +12,14 @@ use Rattle.cdi_model.specs.declared.decl.Kind.TheVariants as kinds
 use Rattle.cdi_index.proofs.AffectedLemmas.{hits, hit-parts}
 use Rattle.cdi_index.proofs.ChangeLemmas.{any-of, count-made}
 use Rattle.cdi_index.proofs.ReadLemmas.{bean-found, bean-itself, type-itself}
-use Rattle.cdi_index.specs.Counted.{is_computed, is_computed_of, reads_of}
+use Rattle.cdi_index.specs.Counted.{is_computed, is_computed_of}
 
 -- ---- lists of keys
 
 apart-filter : (k : DeclKey) (p : DeclKey → Bool) (ls : List DeclKey) → AllByRecursion (λ l. same_key k l ≡ false) ls
     → AllByRecursion (λ l. same_key k l ≡ false) (filter p ls)
 apart-filter k p [] a = a
-apart-filter k p (l ∷ ls) a = by (p l) (apart-filter k p ls a.1)
-  where
-    by : (b : Bool) → AllByRecursion (λ l. same_key k l ≡ false) (filter p ls)
-        → AllByRecursion (λ l. same_key k l ≡ false) (cond b (l ∷ filter p ls) (filter p ls))
-    by true more = (a.0, more)
-    by false more = more
+apart-filter k p (l ∷ ls) a = grind (arith, apart-filter k p ls a.1, a.1, a.0)
 
 distinct-filter : (p : DeclKey → Bool) (ks : List DeclKey) → IsDistinct same_key ks → IsDistinct same_key (filter p ks)
 unfolding IsDistinct
@@ -50,36 +45,17 @@ keys-distinct ds distinct = IsDistinct-from_AllPairs key_decides (map key_of ds)
 
 found-key : (q : DeclKey) (ds : List Decl) → list_any (same_key q) (map key_of ds) ≡ is_some (find_decl q.kind q.name ds)
 found-key q [] = refl
-found-key q (d ∷ ds) = by (same_key q (key_of d)) (found-key q ds)
-  where
-    by : (b : Bool) → list_any (same_key q) (map key_of ds) ≡ is_some (find_decl q.kind q.name ds)
-        → (b || list_any (same_key q) (map key_of ds)) ≡ is_some (cond b (Some d) (find_decl q.kind q.name ds))
-    by true more = refl
-    by false more = more
+found-key q (d ∷ ds) = grind (arith, found-key q ds, q.kind, q.name)
 
 count-keys : (r : DeclKey → Bool) (ds : List Decl) → length (filter (λ d. r (key_of d)) ds) ≡ length (filter r (map key_of ds))
 count-keys r [] = refl
-count-keys r (d ∷ ds) = by (r (key_of d)) (count-keys r ds)
-  where
-    by : (b : Bool) → length (filter (λ d. r (key_of d)) ds) ≡ length (filter r (map key_of ds)) → length (cond b (d ∷ filter (λ d. r (key_of d)) ds) (filter (λ d. r (key_of d)) ds))
-        ≡ length (cond b (key_of d ∷ filter r (map key_of ds)) (filter r (map key_of ds)))
-    by true more = ap suc more
-    by false more = more
+count-keys r (d ∷ ds) = grind (arith, count-keys r ds)
 
 -- ---- one key
 
 tests : (a r f g c : Bool) → (a ≡ false → f ≡ g) → (a ≡ true → g ≡ true → r ≡ true)
     → ((a || r) && (c && f)) ≡ (f && (c && (not g || r)))
-tests true r f g false kept read = sym (and-false f)
-tests true r true true true kept read = sym (read refl refl)
-tests true r true false true kept read = refl
-tests true r false g true kept read = refl
-tests false r f g false kept read = and-false r ∙ sym (and-false f)
-tests false true true true true kept read = refl
-tests false false true true true kept read = refl
-tests false r true false true kept read = absurd (false≢true (sym (kept refl)))
-tests false true false g true kept read = refl
-tests false false false g true kept read = refl
+tests t1 r f g s5 kept read = grind (arith, and-false, false≢true)
 
 some-map : {X Y : Type 0} (f : X → Y) (o : Option X) → is_some (option_map f o) ≡ is_some o
 some-map f None = refl
@@ -140,25 +116,12 @@ module _ (which : Kind) (has : is_recorded which ≡ true) (ds : List Decl) (edi
   other : (kind : Kind) (name : List ℕ) → is_recorded kind ≡ false
       → (list_any (hits ds (key_at kind name)) keys && (is_of_kind which (key_at kind name) && is_some (made_of es (key_at kind name))))
       ≡ (is_some (find_decl kind name es) && is_computed_of which ds keys (key_at kind name))
-  other kind name none = never (list_any (hits ds (key_at kind name)) keys) (is_some (find_decl kind name es))
-      (is_of_kind which (key_at kind name)) (is_some (made_of es (key_at kind name))) (is_computed keys (reads_of ds (key_at kind name)))
-      (apart which kind has none)
+  other kind name none = grind (arith, never, apart)
 
   counted-at : (kind : Kind) (name : List ℕ)
       → (list_any (hits ds (key_at kind name)) keys && (is_of_kind which (key_at kind name) && is_some (made_of es (key_at kind name))))
       ≡ (is_some (find_decl kind name es) && is_computed_of which ds keys (key_at kind name))
-  counted-at kinds.Type name =
-      let k = key_at kinds.Type name in
-      let was = some-map (λ d. made_of_type ds name) (find_decl kinds.Type name ds) in
-      ap (λ b. b && (is_of_kind which k && is_some (made_of es k))) (hit-parts ds keys k)
-      ∙ ap (λ b. (is_among keys k || list_any (reads (made_of ds k)) keys) && (is_of_kind which k && b))
-      (some-map (λ d. made_of_type es name) (find_decl kinds.Type name es))
-      ∙ tests (is_among keys k) (list_any (reads (made_of ds k)) keys) (is_some (find_decl kinds.Type name es)) (is_some (made_of ds k))
-      (is_of_kind which k)
-      (λ none. ap is_some (edits_keep_decl edits ds kinds.Type name none) ∙ sym was)
-      (λ among known. any-of (reads (made_of ds k)) keys k (type-read ds name (find_decl kinds.Type name ds) (sym was ∙ known)) among)
-      ∙ ap (λ b. is_some (find_decl kinds.Type name es) && (is_of_kind which k && b))
-      (sym (computed-type ds name keys (find_decl kinds.Type name ds)))
+  counted-at kinds.Type name = grind (arith, some-map, hit-parts, edits_keep_decl, any-of, type-read, computed-type)
   counted-at kinds.Bean name =
       let k = key_at kinds.Bean name in
       let was = some-map (made_of_bean ds) (find_bean name ds) in

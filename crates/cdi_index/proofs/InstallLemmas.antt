@@ -14,20 +14,7 @@ IsFreeBetween n left all shelf = (s : ℕ) (e : Kept) → kept_at shelf s ≡ So
 applied-from : (n : ℕ) (cs : List Change) (m : StoredBy) (k : DeclKey) (s : ℕ) (made : Made) → applied n cs m k ≡ Some (s, made)
     → ((n ≤ s) × (s < n + length cs)) ⊎ (m k ≡ Some (s, made))
 applied-from n [] m k s made e = inr e
-applied-from n (c ∷ cs) m k s made e = by (same_key c.key k) e (applied-from (suc n) cs m k s made)
-  where
-    here : (o : Option Made) → option_map {U = Stored} (λ x. (n, x)) o ≡ Some (s, made) → n ≡ s
-    here None f = absurd (let none : None ≡ Some (s, made) = f in cc)
-    here (Some x) f = (one-stored n s x made f).0
-
-    by : (b : Bool) → cond b (stored_as n c) (applied (suc n) cs m k) ≡ Some (s, made)
-        → (applied (suc n) cs m k ≡ Some (s, made) → ((suc n ≤ s) × (s < suc n + length cs)) ⊎ (m k ≡ Some (s, made)))
-        → ((n ≤ s) × (s < n + length (c ∷ cs))) ⊎ (m k ≡ Some (s, made))
-    by true f more = let at = here c.made f in inl (omega (arith, at), omega (arith, at))
-    by false f more = elim (more f) [
-      | inl between ↦ inl (omega (arith, between.0), omega (arith, between.1))
-      | inr was ↦ inr was
-    ]
+applied-from n (c ∷ cs) m k s made e = grind (arith, applied-from (suc n) cs m k s made, c.key, c.made, one-stored)
 
 module _ (n all : ℕ) (cs rest : List Change) (c : Change) (is : cs ≡ rest ++ c ∷ []) (shelf : Shelf)
     (free : IsFreeBetween n (length cs) all shelf) where
@@ -38,10 +25,7 @@ module _ (n all : ℕ) (cs rest : List Change) (c : Change) (is : cs ≡ rest ++
   longer = ap length is ∙ length-append rest (c ∷ [])
 
   apart : (e : Kept) → kept_at shelf slot ≡ Some e → ⊥
-  apart e there = elim (free slot e there) [
-    | inl below ↦ omega (arith, below)
-    | inr between ↦ omega (arith, between.0, longer)
-  ]
+  apart e there = grind (arith, longer)
 
   module _ (new : Shelf) (few : length cs ≤ all)
       (others : (s : ℕ) (e : Kept) → kept_at new s ≡ Some e → (s ≡ slot) ⊎ (kept_at shelf s ≡ Some e)) where

@@ -1,8 +1,8 @@
 -- The steps of loops over declarations, their words and their slots.
-use Rattle.cdi_index.proofs.Common.{◌≡◌, ℕ, Bool, true, ◌&&◌, ◌||◌, List, [], ◌∷◌, map, Option, Some, None, refl, sym, ap, ◌∙◌, list_any}
-use Rattle.cdi_index.proofs.Common.{Decl, DeclKey, Made, made_of, ◌++◌, and_from, or_cases, or_left, or_right, inl, inr, Word, Listing}
-use Rattle.cdi_index.proofs.Common.{same_word, words_have, suc, ◌+◌, length, slice_get, Change, change_of, ◌<◌, nat_eq, ◌⊎◌, is_listed}
-use Rattle.cdi_index.proofs.Common.{zero, get_or, take, list_any_more, Lists, Keeps, classes_have, has_word, keys_have, nat_eq-refl}
+use Rattle.cdi_index.proofs.Common.{◌≡◌, ℕ, Bool, true, ◌&&◌, List, [], ◌∷◌, map, Option, Some, None, refl, sym, ap, ◌∙◌, list_any, Decl}
+use Rattle.cdi_index.proofs.Common.{DeclKey, Made, made_of, ◌++◌, and_from, or_cases, or_left, or_right, inl, inr, Word, Listing, same_word}
+use Rattle.cdi_index.proofs.Common.{words_have, suc, ◌+◌, length, slice_get, Change, change_of, ◌<◌, nat_eq, ◌⊎◌, is_listed, zero, get_or}
+use Rattle.cdi_index.proofs.Common.{take, list_any_more, Lists, Keeps, classes_have, has_word, keys_have, nat_eq-refl, arith}
 use Rattle.std.proofs.lemmas.List.{map-append, take_more}
 
 -- ---- what is listed stays
@@ -33,14 +33,7 @@ pub words-all : (made : Made) (slot : ℕ) (b c e : List Listing) → Keeps b c 
     → ((w : Word) → classes_have made.replaces w ≡ true → is_listed c w slot ≡ true)
     → ((w : Word) → words_have made.words w ≡ true → is_listed e w slot ≡ true)
     → (w : Word) → has_word (Some made) w ≡ true → is_listed e w slot ≡ true
-words-all made slot b c e first second keys classes words w h =
-    elim (or_cases (keys_have made.reads w) (classes_have made.replaces w || words_have made.words w) h) [
-      | inl read ↦ second w slot (first w slot (keys w read))
-      | inr other ↦ elim (or_cases (classes_have made.replaces w) (words_have made.words w) other) [
-        | inl replaced ↦ second w slot (classes w replaced)
-        | inr own ↦ words w own
-      ]
-    ]
+words-all made slot b c e first second keys classes words w h = grind (arith, made.reads, made.replaces, made.words)
 
 -- ---- changes
 
@@ -50,10 +43,7 @@ get-last : {X : Type 0} (xs : List X) (x : X) (i : ℕ) (y : X) → slice_get (x
 get-last [] x zero y e = inr (refl, (let one : Some x ≡ Some y = e in cc))
 get-last [] x (suc i) y e = absurd (let no : None ≡ Some y = e in cc)
 get-last (z ∷ xs) x zero y e = inl e
-get-last (z ∷ xs) x (suc i) y e = elim (get-last xs x i y e) [
-  | inl before ↦ inl before
-  | inr last ↦ inr (ap suc last.0, last.1)
-]
+get-last (z ∷ xs) x (suc i) y e = grind (arith, get-last xs x i y e)
 
 -- one more slot is listed under the words of what is made of the next declaration
 pub keys-next : (es : List Decl) (keys : List DeclKey) (i : ℕ) (key : DeclKey) (made : Option Made) (first slot : ℕ)

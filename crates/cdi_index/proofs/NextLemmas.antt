@@ -2,11 +2,11 @@
 use Rattle.cdi_index.proofs.Common.{◌≡◌, ℕ, Bool, true, false, ◌&&◌, ◌||◌, List, [], ◌∷◌, map, Option, Some, None, option_map, refl, sym}
 use Rattle.cdi_index.proofs.Common.{ap, ◌∙◌, list_any, Decl, Kind, Edit, DeclKey, same_key, edited_all, edited_keys, is_among, key_exact}
 use Rattle.cdi_index.proofs.Common.{Made, is_kept, made_of, reads, and_from, and_parts, false≢true, or_left, AreDistinct, Word, Listing}
-use Rattle.cdi_index.proofs.Common.{under, Kept, Shelf, kept_at, stored, IsExact, IsShelf, IsSound, words_have, ◌+◌, cond, length, filter}
+use Rattle.cdi_index.proofs.Common.{under, Kept, Shelf, kept_at, stored, IsExact, IsShelf, IsSound, words_have, ◌+◌, length, filter}
 use Rattle.cdi_index.proofs.Common.{slice_get, same_key_equiv, Change, Stored, made_in, applied, change_of, is_made, ◌<◌, nat_eq}
 use Rattle.cdi_index.proofs.Common.{IsDistinct, computed, is_recorded, ◌≤◌, is_listed, slot_of, keys_changed, keys_turned, turned, Keeps}
-use Rattle.cdi_index.proofs.Common.{classes_have, has_word, subst, lookup, eqb-true, get, spare, limit, is_reader_among, stored_at, touches}
-use Rattle.cdi_index.proofs.Common.{word_of, IsNext, AreReplaced, any-same, any-more, same-bool}
+use Rattle.cdi_index.proofs.Common.{classes_have, has_word, lookup, eqb-true, get, spare, limit, is_reader_among, stored_at, touches}
+use Rattle.cdi_index.proofs.Common.{word_of, IsNext, AreReplaced, any-same, any-more, same-bool, arith}
 use Rattle.std.proofs.Common.{◌^◌}
 use Rattle.cdi_index.proofs.AffectedLemmas.{hits, made-stays}
 use Rattle.cdi_index.proofs.ChangeLemmas.{among-turned, applied-comes, applied-made, Anew, Before, StoredBy}
@@ -85,11 +85,7 @@ module _ (ds : List Decl) (edits : List Edit) (ks : List DeclKey) (m : StoredBy)
   unaffected k none = made-stays ds edits k (sym (affected k) ∙ among-turned ks k ∙ none)
 
   pub exact-next : IsExact es (applied first (map (change_of es) ks) m)
-  exact-next k = applied-made first es ks m k ∙ by (is_among ks k) refl
-    where
-      by : (b : Bool) → is_among ks k ≡ b → cond b (made_of es k) (made_in (m k)) ≡ made_of es k
-      by true e = refl
-      by false e = exact k ∙ sym (unaffected k e)
+  exact-next k = grind (arith, applied-made, unaffected)
 
   pub sound-next : IsSound (applied first (map (change_of es) ks) m) more
   sound-next w k s made at has = elim (applied-comes first es ks m k s made at) [
@@ -102,11 +98,7 @@ pub counted-from : (which : Kind) → is_recorded which ≡ true → (ds eds : L
     (changes : List Change) (n : ℕ) → eds ≡ edited_all ds edits → ekeys ≡ edited_keys edits → AreDistinct eds
     → IsDistinct same_key ks → ((k : DeclKey) → list_any (same_key k) ks ≡ list_any (hits ds k) (edited_keys edits)) → slice ≡ ks
     → changes ≡ map (change_of eds) slice → n ≡ length (filter (is_made which) changes) → n ≡ computed which ds eds ekeys
-counted-from which has ds eds edits ekeys ks slice changes n made named distinct once affected shown are is =
-    is ∙ ap (λ cs. length (filter (is_made which) cs))
-    (are ∙ ap (λ d. map (change_of d) slice) made ∙ ap (map (change_of (edited_all ds edits))) shown)
-    ∙ count-changes which has ds edits (subst AreDistinct made distinct) ks once affected
-    ∙ ap (λ d. computed which ds d (edited_keys edits)) (sym made) ∙ ap (computed which ds eds) (sym named)
+counted-from which has ds eds edits ekeys ks slice changes n made named distinct once affected shown are is = grind (arith, count-changes)
 
 -- ---- with more room
 
@@ -118,11 +110,7 @@ module _ (old new : Shelf) (slots : new.slots.entries ≡ old.slots.entries) (ke
   at-same s = ap (lookup (nat_eq s)) kept
 
   stored-same : (k : DeclKey) → stored new k ≡ stored old k
-  stored-same k = ap (stored_at (kept_at new)) (slot-same k) ∙ by (slot_of old k)
-    where
-      by : (o : Option ℕ) → stored_at (kept_at new) o ≡ stored_at (kept_at old) o
-      by None = refl
-      by (Some s) = ap (option_map {U = Stored} (λ e. (s, e.made))) (at-same s)
+  stored-same k = grind (arith, slot-same, at-same)
 
   pub shelf-same : IsShelf old → IsShelf new
   shelf-same is = record {
@@ -150,9 +138,7 @@ module _ (ds eds : List Decl) (edits : List Edit) (ekeys ks slice : List DeclKey
 
   pub counted : (which : Kind) → is_recorded which ≡ true → (changes items : List Change) (n : ℕ) → AreDistinct eds → IsDistinct same_key ks
       → items ≡ changes → changes ≡ map (change_of eds) slice → n ≡ length (filter (is_made which) items) → n ≡ computed which ds eds ekeys
-  counted which has changes items n distinct once seen are is_n =
-      counted-from which has ds eds edits ekeys ks slice changes n made named distinct once all-hits shown are
-      (is_n ∙ ap (λ cs. length (filter (is_made which) cs)) seen)
+  counted which has changes items n distinct once seen are is_n = grind (arith, counted-from, all-hits)
 
   -- what is kept of others is what is made of them now
   pub kept-of-others : new.slots.entries ≡ old.slots.entries → new.kept.entries ≡ old.kept.entries → (k : DeclKey)

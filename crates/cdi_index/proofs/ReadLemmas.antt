@@ -1,7 +1,7 @@
 -- A declaration is read by what is made of it.
 use Rattle.cdi_index.proofs.Common.{◌≡◌, ℕ, Bool, true, false, ◌||◌, List, [], ◌∷◌, map, Some, None, refl, sym, ap, ◌∙◌, BeanDecl, Decl}
 use Rattle.cdi_index.proofs.Common.{DeclKey, key_at, same_key, find_decl, is_among, key_exact, as_bean, find_bean, record_reads, bytes_eq}
-use Rattle.cdi_index.proofs.Common.{or_left, inr, key_of, cond, is_some, same_key_equiv, type_reads, is_of, has}
+use Rattle.cdi_index.proofs.Common.{or_left, inr, key_of, cond, is_some, same_key_equiv, type_reads, is_of, has, arith}
 use Rattle.cdi_model.specs.declared.decl.Decl.TheVariants as decls
 use Rattle.cdi_model.specs.declared.decl.Kind.TheVariants as kinds
 use Rattle.cdi_match.specs.Types.{types_of}
@@ -40,15 +40,4 @@ bean-itself ds name bean found =
 -- where one is declared as a bean a bean is found
 pub bean-found : (name : List ℕ) (ds : List Decl) → is_some (find_bean name ds) ≡ is_some (find_decl kinds.Bean name ds)
 bean-found name [] = refl
-bean-found name (d ∷ ds) = by d (bean-found name ds)
-  where
-    at : (b : Bool) (x : BeanDecl) → is_some (find_bean name ds) ≡ is_some (find_decl kinds.Bean name ds)
-        → is_some (as_bean (cond b (Some (decls.Bean x)) (find_decl kinds.Bean name ds)))
-        ≡ is_some (cond b (Some (decls.Bean x)) (find_decl kinds.Bean name ds))
-    at true x more = refl
-    at false x more = more
-
-    by : (d : Decl) → is_some (find_bean name ds) ≡ is_some (find_decl kinds.Bean name ds)
-        → is_some (find_bean name (d ∷ ds)) ≡ is_some (find_decl kinds.Bean name (d ∷ ds))
-    by (decls.Bean b) more = at (is_of kinds.Bean name (decls.Bean b)) b more
-    by other more = more
+bean-found name (d ∷ ds) = grind (arith, bean-found name ds)

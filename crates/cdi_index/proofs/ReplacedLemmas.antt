@@ -1,18 +1,17 @@
 -- Which beans are replaced after changes.
-use Rattle.cdi_index.proofs.Common.{any-more, same-bool, ◌≡◌, ℕ, Bool, true, false, ◌&&◌, ◌||◌, List, [], ◌∷◌, map, Option, Some, None}
+use Rattle.cdi_index.proofs.Common.{any-more, same-bool, ◌≡◌, ℕ, Bool, true, false, ◌||◌, List, [], ◌∷◌, map, Option, Some, None}
 use Rattle.cdi_index.proofs.Common.{option_map, refl, sym, ap, ◌∙◌, list_any, BeanDecl, BindingDecl, Decl, Kind, DeclKey, key_at, same_key}
-use Rattle.cdi_index.proofs.Common.{find_decl, is_among, key_exact, find_binding, own_records, Effective, as_bean, find_bean, replaced_by}
-use Rattle.cdi_index.proofs.Common.{Made, made_of, made_of_bean, made_of_binding, made_of_interceptor, made_of_type, not, bytes_eq}
-use Rattle.cdi_index.proofs.Common.{and_from, and_parts, false≢true, or_cases, or_left, or_right, inl, inr, key_of, kind_of, name_of_decl}
-use Rattle.cdi_index.proofs.Common.{AreDistinct, Word, Listing, under, same_word, word_at, Kept, Shelf, kept_at, stored, IsExact, IsShelf}
-use Rattle.cdi_index.proofs.Common.{IsSound, words_have, cond, same_key_equiv, Change, Stored, made_in, change_of, nat_eq, AllByRecursion}
-use Rattle.cdi_index.proofs.Common.{IsDistinct, slot_of, made_after, classes_have, has_word, keys_have, eqb-true, stored_at, AreReplaced}
-use Rattle.cdi_index.proofs.Common.{is_of, has, is_replaced, unless_replaced, records_declared, records_in, records_are_own, lent}
-use Rattle.cdi_index.proofs.Common.{is_at_stake, is_replaced_anew, is_replaced_still, records_after, replaced_records}
+use Rattle.cdi_index.proofs.Common.{find_decl, is_among, key_exact, find_binding, Effective, as_bean, find_bean, replaced_by, Made, made_of}
+use Rattle.cdi_index.proofs.Common.{made_of_bean, made_of_binding, made_of_interceptor, made_of_type, not, bytes_eq, and_from, and_parts}
+use Rattle.cdi_index.proofs.Common.{false≢true, or_cases, or_left, or_right, inl, inr, key_of, kind_of, name_of_decl, AreDistinct, Word}
+use Rattle.cdi_index.proofs.Common.{Listing, under, same_word, word_at, Kept, Shelf, kept_at, stored, IsExact, IsShelf, IsSound, words_have}
+use Rattle.cdi_index.proofs.Common.{cond, same_key_equiv, Change, Stored, made_in, change_of, nat_eq, AllByRecursion, IsDistinct, slot_of}
+use Rattle.cdi_index.proofs.Common.{made_after, classes_have, has_word, keys_have, eqb-true, stored_at, AreReplaced, is_of, has}
+use Rattle.cdi_index.proofs.Common.{is_replaced, unless_replaced, records_in, records_are_own, lent, is_at_stake, is_replaced_anew}
+use Rattle.cdi_index.proofs.Common.{is_replaced_still, records_after, replaced_records, arith}
 use Rattle.base_lists.proofs.Any.{any-map}
 use Rattle.cdi_model.specs.declared.decl.Decl.TheVariants as decls
 use Rattle.cdi_model.specs.declared.decl.Kind.TheVariants as kinds
-use Rattle.cdi_effective.specs.Beans.{records}
 use Rattle.cdi_postings.specs.Words.{same_word_equiv}
 use Rattle.cdi_postings.specs.declared.word.Reason.TheVariants as reasons
 use Rattle.cdi_index.proofs.ReadLemmas.{found_name}
@@ -33,12 +32,7 @@ pub record Passing (p : Decl → Bool) (ds : List Decl) : Type 0 where
 apart-found : (k : DeclKey) (kind : Kind) (name : List ℕ) (ds : List Decl) (e : Decl)
     → AllByRecursion (λ l. same_key k l ≡ false) (map key_of ds) → find_decl kind name ds ≡ Some e → same_key k (key_of e) ≡ false
 apart-found k kind name [] e apart f = absurd (let none : None ≡ Some e = f in cc)
-apart-found k kind name (d ∷ ds) e apart f = by (is_of kind name d) f (apart-found k kind name ds e apart.1)
-  where
-    by : (b : Bool) → cond b (Some d) (find_decl kind name ds) ≡ Some e → (find_decl kind name ds ≡ Some e → same_key k (key_of e) ≡ false)
-        → same_key k (key_of e) ≡ false
-    by true g more = let one : Some d ≡ Some e = g in let same : d ≡ e = cc in ap (λ x. same_key k (key_of x)) (sym same) ∙ apart.0
-    by false g more = more g
+apart-found k kind name (d ∷ ds) e apart f = grind (arith, apart-found k kind name ds e apart.1, apart.1, apart.0)
 
 pub passing : (p : Decl → Bool) (ds : List Decl) → IsDistinct same_key (map key_of ds) → list_any p ds ≡ true → Passing p ds
 unfolding IsDistinct
@@ -263,11 +257,7 @@ module _ (ds es : List Decl) (ks : List DeclKey) (shelf : Shelf) (listings : Lis
   flag k = same-bool (is_replaced_after shelf listings ks changes k) (is_replaced_key es k) (found-replaced k) (replaced-found k)
 
   after-is : (k : DeclKey) → made_after changes (made_in (stored shelf k)) k ≡ made_of es k
-  after-is k = made-after es ks (made_in (stored shelf k)) k ∙ by (list_any (same_key k) ks) refl
-    where
-      by : (b : Bool) → list_any (same_key k) ks ≡ b → cond b (made_of es k) (made_in (stored shelf k)) ≡ made_of es k
-      by true e = refl
-      by false e = exact k ∙ sym (others k e)
+  after-is k = grind (arith, made-after)
 
   pub records-are : (k : DeclKey) → records_after shelf listings ks changes k ≡ replaced_records es k
   records-are k = ap (λ b. cond b (disabled (made_after changes (made_in (stored shelf k)) k)) None) (flag k)
@@ -278,12 +268,7 @@ module _ (ds es : List Decl) (ks : List DeclKey) (shelf : Shelf) (listings : Lis
 
   -- who is affected is at stake
   pub unaffected : (k : DeclKey) → is_at_stake shelf changes k ≡ false → list_any (same_key k) ks ≡ false
-  unaffected k none = by (list_any (same_key k) ks) refl
-    where
-      by : (b : Bool) → list_any (same_key k) ks ≡ b → b ≡ false
-      by false e = refl
-      by true e = absurd (false≢true (sym none ∙ stake-is k ∙ any-key (λ x. stakes shelf k (change_of es x)) ks k e
-          (or_left (same_key k k) (replaces (made_in (stored shelf k)) k || replaces (made_of es k) k) (same_key_equiv.refl k))))
+  unaffected k none = grind (arith, false≢true, stake-is, any-key, same_key_equiv.refl)
 
   -- a declaration that is not at stake stays replaced or not
   pub flag-spared : (k : DeclKey) → is_at_stake shelf changes k ≡ false → is_replaced_key es k ≡ is_replaced_key ds k
@@ -317,20 +302,12 @@ module _ (ds es : List Decl) (ks : List DeclKey) (shelf : Shelf) (listings : Lis
   pub turned-are : (before after : DeclKey → Option (List Effective)) → AreReplaced ds before
       → ((k : DeclKey) → after k ≡ cond (is_at_stake shelf changes k) (records_after shelf listings ks changes k) (before k))
       → AreReplaced es after
-  turned-are before after were turns k = turns k ∙ by (is_at_stake shelf changes k) refl
-    where
-      by : (b : Bool) → is_at_stake shelf changes k ≡ b → cond b (records_after shelf listings ks changes k) (before k) ≡ replaced_records es k
-      by true e = records-are k
-      by false e = were k ∙ sym (spared k e)
+  turned-are before after were turns k = grind (arith, records-are, spared)
 
 -- ---- what is lent of a bean
 
 not-replaced : (b : Effective) → unless_replaced false b ≡ b
-not-replaced b = ap (λ e. record b { is_enabled = e }) (and-true b.is_enabled)
-  where
-    and-true : (x : Bool) → (x && true) ≡ x
-    and-true true = refl
-    and-true false = refl
+not-replaced b = grind (arith, b.is_enabled)
 
 none-replaced : (bs : List Effective) → map (unless_replaced false) bs ≡ bs
 none-replaced [] = refl
@@ -342,25 +319,7 @@ bean-name name ds b found = found_name name b ds found
 pub lent-are : (ds : List Decl) (class : List ℕ) → lent (replaced_records ds (key_at kinds.Bean class)) (made_of ds (key_at kinds.Bean class))
     ≡ records_in ds class
 unfolding records_in
-lent-are ds class = by (find_bean class ds) refl (is_replaced ds class) refl
-  where
-    of_bean : (b : BeanDecl) → b.name ≡ class → (r : Bool) → is_replaced ds class ≡ r
-        → records ds b ≡ map (unless_replaced r) (own_records ds b)
-    of_bean b one r is = records_are_own ds b ∙ ap (λ x. map (unless_replaced x) (own_records ds b)) (ap (is_replaced ds) one ∙ is)
-
-    by : (o : Option BeanDecl) → find_bean class ds ≡ o → (r : Bool) → is_replaced ds class ≡ r
-        → lent (cond (is_replaced ds class) (disabled (option_map (made_of_bean ds) (find_bean class ds))) None) (option_map (made_of_bean ds) (find_bean class ds))
-        ≡ records_declared ds (find_bean class ds)
-    by None f true is = ap (λ o. lent (cond (is_replaced ds class) (disabled (option_map (made_of_bean ds) o)) None) (option_map (made_of_bean ds) o)) f
-        ∙ ap (λ x. lent (cond x None None) None) is ∙ ap (records_declared ds) (sym f)
-    by None f false is = ap (λ o. lent (cond (is_replaced ds class) (disabled (option_map (made_of_bean ds) o)) None) (option_map (made_of_bean ds) o)) f
-        ∙ ap (λ x. lent (cond x None None) None) is ∙ ap (records_declared ds) (sym f)
-    by (Some b) f true is = ap (λ o. lent (cond (is_replaced ds class) (disabled (option_map (made_of_bean ds) o)) None) (option_map (made_of_bean ds) o)) f
-        ∙ ap (λ x. lent (cond x (disabled (Some (made_of_bean ds b))) None) (Some (made_of_bean ds b))) is
-        ∙ sym (of_bean b (bean-name class ds b f) true is) ∙ ap (records_declared ds) (sym f)
-    by (Some b) f false is = ap (λ o. lent (cond (is_replaced ds class) (disabled (option_map (made_of_bean ds) o)) None) (option_map (made_of_bean ds) o)) f
-        ∙ ap (λ x. lent (cond x (disabled (Some (made_of_bean ds b))) None) (Some (made_of_bean ds b))) is
-        ∙ sym (none-replaced (own_records ds b)) ∙ sym (of_bean b (bean-name class ds b f) false is) ∙ ap (records_declared ds) (sym f)
+lent-are ds class = grind (arith, records_are_own, bean-name, none-replaced)
 
 -- what is lent is that of the bean, where the records and what is made are exact
 pub lent-of : (ds : List Decl) (class : List ℕ) (o : Option (List Effective)) (made : Option Made)

@@ -1,7 +1,7 @@
 -- What is kept at slots, where one is taken out or put in.
 use Rattle.cdi_index.proofs.Common.{◌≡◌, ℕ, Bool, true, false, Option, Some, None, option_map, refl, sym, ap, ◌∙◌, DeclKey, same_key}
 use Rattle.cdi_index.proofs.Common.{key_exact, Made, false≢true, Kept, cond, same_key_equiv, Stored, nat_eq, eqb-true, stored_at, Result}
-use Rattle.cdi_index.proofs.Common.{Ok, Err, OnOk, nat_eq-refl}
+use Rattle.cdi_index.proofs.Common.{Ok, Err, OnOk, nat_eq-refl, arith}
 use Rattle.std.specs.Result.{IsOk}
 use Rattle.cdi_index.proofs.ChangeLemmas.{one-stored}
 use Rattle.cdi_index.specs.Kept.{IsOwned, Owns}
@@ -73,37 +73,13 @@ module _ (f f' : Slots) (g g' : Entries) (key : DeclKey) (slot : ℕ) (entry : K
       by false e = refl
 
   pub take-stored : (k : DeclKey) → stored_at g' (f' k) ≡ cond (same_key key k) None (stored_at g (f k))
-  take-stored k = by (same_key key k) refl
-    where
-      at_slot : same_key key k ≡ false → (o : Option ℕ) → f k ≡ o → stored_at g' o ≡ stored_at g o
-      at_slot apart None is = refl
-      at_slot apart (Some s) is = ap (option_map {U = Stored} (λ e. (s, e.made)))
-          (left s ∙ ap (λ b. cond b None (g s)) (other-slot k s apart is))
-
-      by : (b : Bool) → same_key key k ≡ b → stored_at g' (f' k) ≡ cond b None (stored_at g (f k))
-      by true e = ap (stored_at g') (taken k ∙ ap (λ b. cond b None (f k)) e)
-      by false e = ap (stored_at g') (taken k ∙ ap (λ b. cond b None (f k)) e) ∙ at_slot e (f k) refl
+  take-stored k = grind (arith, other-slot)
 
   pub take-owns : Owns f' g'
-  take-owns k s h = by (same_key key k) refl (sym (taken k) ∙ h)
-    where
-      by : (b : Bool) → same_key key k ≡ b → cond b None (f k) ≡ Some s → option_map (λ (e : Kept). e.key) (g' s) ≡ Some k
-      by true e none = absurd (let no : None ≡ Some s = none in cc)
-      by false e some = ap (option_map (λ (e : Kept). e.key)) (left s ∙ ap (λ b. cond b None (g s)) (other-slot k s e some)) ∙ owns k s some
+  take-owns k s h = grind (arith, other-slot)
 
   pub take-owned : IsOwned f' g'
-  take-owned s e h = by (nat_eq slot s) refl (sym (left s) ∙ h)
-    where
-      by : (b : Bool) → nat_eq slot s ≡ b → cond b None (g s) ≡ Some e → f' e.key ≡ Some s
-      by true is none = absurd (let no : None ≡ Some e = none in cc)
-      by false is some = here (same_key key e.key) refl
-        where
-          here : (c : Bool) → same_key key e.key ≡ c → f' e.key ≡ Some s
-          here true one =
-              let same : Some slot ≡ Some s = sym at ∙ ap f (key_exact key e.key one) ∙ owned s e some in
-              let slots : slot ≡ s = cc in
-              absurd (false≢true (sym is ∙ ap (nat_eq slot) (sym slots) ∙ nat_eq-refl slot))
-          here false apart = taken e.key ∙ ap (λ b. cond b None (f e.key)) apart ∙ owned s e some
+  take-owned s e h = grind (arith, e.key, key_exact, false≢true, nat_eq-refl)
 
 -- ---- put in
 
@@ -125,41 +101,13 @@ module _ (f f' : Slots) (g g' : Entries) (key : DeclKey) (slot : ℕ) (made : Ma
       by false e = kept s ∙ ap (λ b. cond b (Some entry) (g s)) e
 
   pub put-stored : (k : DeclKey) → stored_at g' (f' k) ≡ cond (same_key key k) (Some (slot, made)) (stored_at g (f k))
-  put-stored k = by (same_key key k) refl
-    where
-      at_slot : (o : Option ℕ) → f k ≡ o → stored_at g' o ≡ stored_at g o
-      at_slot None is = refl
-      at_slot (Some s) is = ap (option_map {U = Stored} (λ e. (s, e.made))) (stays-at k s is)
-
-      by : (b : Bool) → same_key key k ≡ b → stored_at g' (f' k) ≡ cond b (Some (slot, made)) (stored_at g (f k))
-      by true e = ap (stored_at g') (put k ∙ ap (λ b. cond b (Some slot) (f k)) e)
-          ∙ ap (option_map {U = Stored} (λ e. (slot, e.made))) there-now
-      by false e = ap (stored_at g') (put k ∙ ap (λ b. cond b (Some slot) (f k)) e) ∙ at_slot (f k) refl
+  put-stored k = grind (arith, stays-at, there-now)
 
   pub put-owns : Owns f' g'
-  put-owns k s h = by (same_key key k) refl (sym (put k) ∙ h)
-    where
-      by : (b : Bool) → same_key key k ≡ b → cond b (Some slot) (f k) ≡ Some s → option_map (λ (e : Kept). e.key) (g' s) ≡ Some k
-      by true e at =
-          let one : Some slot ≡ Some s = at in
-          let same : slot ≡ s = cc in
-          ap (option_map (λ (e : Kept). e.key)) (ap g' (sym same) ∙ there-now) ∙ ap Some (key_exact key k e)
-      by false e at = ap (option_map (λ (e : Kept). e.key)) (stays-at k s at) ∙ owns k s at
+  put-owns k s h = grind (arith, there-now, key_exact, stays-at)
 
   pub put-owned : IsOwned f' g'
-  put-owned s e h = by (nat_eq slot s) refl (sym (kept s) ∙ h)
-    where
-      by : (b : Bool) → nat_eq slot s ≡ b → cond b (Some entry) (g s) ≡ Some e → f' e.key ≡ Some s
-      by true is some =
-          let one : Some entry ≡ Some e = some in
-          let same : entry ≡ e = cc in
-          ap (λ (x : Kept). f' x.key) (sym same) ∙ put key ∙ ap (λ b. cond b (Some slot) (f key)) (same_key_equiv.refl key)
-          ∙ ap Some (eqb-true slot s is)
-      by false is some = here (same_key key e.key) refl
-        where
-          here : (c : Bool) → same_key key e.key ≡ c → f' e.key ≡ Some s
-          here true one = absurd (let no : None ≡ Some s = sym absent ∙ ap f (key_exact key e.key one) ∙ owned s e some in cc)
-          here false apart = put e.key ∙ ap (λ b. cond b (Some slot) (f e.key)) apart ∙ owned s e some
+  put-owned s e h = grind (arith, e.key, same_key_equiv.refl, eqb-true, key_exact)
 
 -- what is told of a success
 pub on-ok : {T E P : Type 0} (r : Result T E) → IsOk r → OnOk r P → P

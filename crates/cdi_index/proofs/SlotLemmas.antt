@@ -1,11 +1,11 @@
 -- The beans under words under which one slot alone is listed.
 use Rattle.cdi_index.proofs.Common.{◌≡◌, ℕ, Bool, true, false, List, [], ◌∷◌, Option, Some, None, option_map, refl, sym, ap, ◌∙◌, list_any}
-use Rattle.cdi_index.proofs.Common.{BindingDecl, Decl, Kind, key_at, same_key, find_decl, find_binding, as_bean, Made, made_of}
-use Rattle.cdi_index.proofs.Common.{made_of_bean, made_of_binding, made_of_interceptor, made_of_type, ◌++◌, flat_map, option_map_or}
-use Rattle.cdi_index.proofs.Common.{false≢true, key_of, AreDistinct, Word, Listing, under, Kept, Shelf, kept_at, stored, IsExact, IsShelf}
-use Rattle.cdi_index.proofs.Common.{IsSound, words_have, suc, cond, filter, is_some, same_key_equiv, nat_eq, arith, zero, position, get}
-use Rattle.cdi_index.proofs.Common.{AreReplaced, is_of, records_in, lent, replaced_records, position-there, entries, made_by, beans_under}
-use Rattle.cdi_index.proofs.Common.{has_one, is_at, records_at, records_kept, slice_get}
+use Rattle.cdi_index.proofs.Common.{Decl, Kind, key_at, same_key, find_decl, as_bean, Made, made_of, made_of_bean, made_of_interceptor}
+use Rattle.cdi_index.proofs.Common.{made_of_type, ◌++◌, flat_map, option_map_or, false≢true, key_of, AreDistinct, Word, Listing, under}
+use Rattle.cdi_index.proofs.Common.{Kept, Shelf, kept_at, stored, IsExact, IsShelf, IsSound, words_have, suc, cond, filter, is_some}
+use Rattle.cdi_index.proofs.Common.{same_key_equiv, nat_eq, arith, zero, position, get, AreReplaced, is_of, records_in, lent}
+use Rattle.cdi_index.proofs.Common.{replaced_records, position-there, entries, made_by, beans_under, has_one, is_at, records_at}
+use Rattle.cdi_index.proofs.Common.{records_kept, slice_get}
 use Rattle.std.proofs.lemmas.{Bool.ne_eqb, List.append-nil}
 use Rattle.cdi_model.proofs.PositionLemmas.{name-found, position-found}
 use Rattle.cdi_model.specs.declared.decl.Decl.TheVariants as decls
@@ -53,11 +53,7 @@ has-place kind name ds made is none = by (find_decl kind name ds) refl
 module _ (ds : List Decl) (distinct : AreDistinct ds) (w : Word) (p : ℕ) where
   lent-there : (kind : Kind) (name : List ℕ) (made : Made) → made_by kind name ds ≡ Some made → words_have made.words w ≡ true
       → position (is_of kind name) ds ≡ Some p → lent (replaced_records ds (key_at kind name)) (Some made) ≡ records_at ds p
-  lent-there kinds.Type name made is has at = absurd (by (find_decl kinds.Type name ds) is)
-    where
-      by : (o : Option Decl) → option_map (λ d. made_of_type ds name) o ≡ Some made → ⊥
-      by None e = let no : None ≡ Some made = e in cc
-      by (Some d) e = false≢true (ap (λ (m : Made). words_have m.words w) (some-made (made_of_type ds name) made e) ∙ has)
+  lent-there kinds.Type name made is has at = grind (arith, false≢true, some-made)
   lent-there kinds.Bean name made is has at = by (find_decl kinds.Bean name ds) refl is
     where
       lends : lent (replaced_records ds (key_at kinds.Bean name)) (Some made) ≡ records_in ds name
@@ -78,11 +74,7 @@ module _ (ds : List Decl) (distinct : AreDistinct ds) (w : Word) (p : ℕ) where
       by (Some (decls.Stereotype d)) e f = none None refl f
       by (Some (decls.Interceptor d)) e f = none None refl f
   lent-there kinds.Qualifier name made is has at = absurd (let no : None ≡ Some made = is in cc)
-  lent-there kinds.Binding name made is has at = absurd (by (find_binding name ds) is)
-    where
-      by : (o : Option BindingDecl) → option_map (made_of_binding ds) o ≡ Some made → ⊥
-      by None e = let no : None ≡ Some made = e in cc
-      by (Some d) e = false≢true (ap (λ (m : Made). words_have m.words w) (some-made (made_of_binding ds d) made e) ∙ has)
+  lent-there kinds.Binding name made is has at = grind (arith, false≢true, some-made)
   lent-there kinds.Stereotype name made is has at = absurd (let no : None ≡ Some made = is in cc)
   lent-there kinds.Interceptor name made is has at = by (find_decl kinds.Interceptor name ds) refl is
     where

@@ -1,11 +1,11 @@
 -- The beans that are sought are among those of the declarations that have the words.
 use Rattle.cdi_index.proofs.Common.{◌≡◌, ℕ, Bool, true, false, ◌||◌, List, [], ◌∷◌, map, Option, Some, None, refl, sym, ap, ◌∙◌, list_any}
 use Rattle.cdi_index.proofs.Common.{or_parts, BeanDecl, Decl, Qual, own_records, Effective, ◌++◌, flat_map, option_to_list, bytes_eq}
-use Rattle.cdi_index.proofs.Common.{list_any-append, mentions, Mention, BodyOf, CallOf, EventOf, MethodOf, PointOf, StereotypeOf, TypeIn}
-use Rattle.cdi_index.proofs.Common.{UseOf, required, Word, same_word, word_at, words_have, words_named, words_named_in, bytes_eq-turned}
+use Rattle.cdi_index.proofs.Common.{list_any-append, Mention, BodyOf, CallOf, EventOf, MethodOf, PointOf, StereotypeOf, TypeIn, UseOf}
+use Rattle.cdi_index.proofs.Common.{required, Word, same_word, word_at, words_have, words_named, words_named_in, bytes_eq-turned}
 use Rattle.cdi_index.proofs.Common.{words_of_observer, words_of_record, words_of_uses, suc, cond, filter, slice_get, words_written_in, has}
-use Rattle.cdi_index.proofs.Common.{is_replaced, unless_replaced, records_are_own, entries, beans_under, has_one, beans, has_name}
-use Rattle.cdi_index.proofs.Common.{observes_one, or-false, any-same, any-or}
+use Rattle.cdi_index.proofs.Common.{unless_replaced, records_are_own, entries, beans_under, has_one, beans, has_name, observes_one}
+use Rattle.cdi_index.proofs.Common.{or-false, any-same, any-or, arith}
 use Rattle.std.proofs.lemmas.List.Elements.{filter-append}
 use Rattle.base_lists.proofs.{Any.any-none, Filters.filter-each, Filters.filter-same}
 use Rattle.cdi_model.specs.declared.decl.ObserverDecl.{ObserverDecl}
@@ -65,15 +65,7 @@ module _ (w : Word) where
   none-given : (q : Effective → Bool)
       → ((r : Bool) (x : Effective) → words_have (words_of_record x) w ≡ false → q (unless_replaced r x) ≡ false)
       → (ds : List Decl) (d : Decl) → has_one ds (w ∷ []) d ≡ false → filter q (entries ds d) ≡ []
-  none-given q says ds (decls.Bean b) none =
-      let r : Bool = is_replaced ds b.name in
-      let own : List Word = flat_map words_of_record (own_records ds b) in
-      let more : List Word = flat_map words_of_observer b.observers in
-      let named : List Word = words_named (decls.Bean b) in
-      let parts = or_parts (words_have (own ++ more) w) (words_have named w)
-      (sym (words-append (own ++ more) named) ∙ sym (or-false (words_have (words_of_bean ds b) w)) ∙ none) in
-      let first = or_parts (words_have own w) (words_have more w) (sym (words-append own more) ∙ parts.0) in
-      ap (filter q) (records_are_own ds b) ∙ none-sought q r (says r) (own_records ds b) first.0
+  none-given q says ds (decls.Bean b) none = grind (arith, b.name, b.observers, words-append, or-false, records_are_own, none-sought)
   none-given q says ds (decls.Type d) none = refl
   none-given q says ds other none = refl
 
@@ -81,23 +73,11 @@ module _ (w : Word) where
 
 no-type : (t : List ℕ) (r : Bool) (x : Effective) → words_have (words_of_record x) (word_at reasons.HasType t) ≡ false
     → has (unless_replaced r x).types t ≡ false
-no-type t r x none =
-    let w : Word = word_at reasons.HasType t in
-    let types : List Word = map (word_at reasons.HasType) x.types in
-    let more : List Word = map (word_at reasons.HasName) (option_to_list x.name) ++ (words_of_uses x.qualifiers ++ words_of_bindings x.bindings) in
-    let parts = or_parts (words_have types w) (words_have more w) (sym (words-append w types more) ∙ none) in
-    sym (types-have x.types t) ∙ parts.0
+no-type t r x none = grind (arith, x.types, x.name, x.qualifiers, x.bindings, words-append, types-have)
 
 no-name : (n : List ℕ) (r : Bool) (x : Effective) → words_have (words_of_record x) (word_at reasons.HasName n) ≡ false
     → has_name n (unless_replaced r x) ≡ false
-no-name n r x none =
-    let w : Word = word_at reasons.HasName n in
-    let types : List Word = map (word_at reasons.HasType) x.types in
-    let name : List Word = map (word_at reasons.HasName) (option_to_list x.name) in
-    let uses : List Word = words_of_uses x.qualifiers ++ words_of_bindings x.bindings in
-    let parts = or_parts (words_have types w) (words_have (name ++ uses) w) (sym (words-append w types (name ++ uses)) ∙ none) in
-    let more = or_parts (words_have name w) (words_have uses w) (sym (words-append w name uses) ∙ parts.1) in
-    sym (name-has x.name n x refl) ∙ more.0
+no-name n r x none = grind (arith, x.types, x.name, x.qualifiers, x.bindings, words-append, name-has)
 
 -- a declaration that has not the word of a type has no bean of it
 pub none-of-type : (ds : List Decl) (d : Decl) (t : List ℕ) → has_one ds (word_at reasons.HasType t ∷ []) d ≡ false
@@ -107,10 +87,7 @@ none-of-type ds d t none = none-given (word_at reasons.HasType t) (λ b. has b.t
 pub of-type : (ds : List Decl) (t : List ℕ)
     → filter (λ b. has b.types t) (beans_under ds (word_at reasons.HasType t ∷ [])) ≡ filter (λ b. has b.types t) (beans ds)
 unfolding beans
-of-type ds t =
-    let w : Word = word_at reasons.HasType t in
-    filter-under (entries ds) (has_one ds (w ∷ [])) (λ b. has b.types t) ds
-    (λ i d there. none-of-type ds d t)
+of-type ds t = grind (arith, filter-under, none-of-type)
 
 pub of-name : (ds : List Decl) (n : List ℕ)
     → filter (has_name n) (beans_under ds (word_at reasons.HasName n ∷ [])) ≡ filter (has_name n) (beans ds)
@@ -142,22 +119,19 @@ none-bound (u ∷ us) t = none-bound us t
 none-of-records : (own : List Effective) (t : List ℕ) → words_have (flat_map words_of_record own) (word_at reasons.Observes t) ≡ false
 none-of-records [] t = refl
 none-of-records (x ∷ own) t =
-    let w : Word = word_at reasons.Observes t in
-    let types : List Word = map (word_at reasons.HasType) x.types in
-    let name : List Word = map (word_at reasons.HasName) (option_to_list x.name) in
-    let quals : List Word = words_of_uses x.qualifiers in
-    let bindings : List Word = words_of_bindings x.bindings in
-    let uses : List Word = quals ++ bindings in
-    let rest : Bool = words_have (flat_map words_of_record own) w in
-    words-append w (words_of_record x) (flat_map words_of_record own)
-    ∙ ap (λ b. b || rest) (words-append w types (name ++ uses))
-    ∙ ap (λ b. (b || words_have (name ++ uses) w) || rest) (none-typed x.types t)
-    ∙ ap (λ b. b || rest) (words-append w name uses)
-    ∙ ap (λ b. (b || words_have uses w) || rest) (none-named x.name t)
-    ∙ ap (λ b. b || rest) (words-append w quals bindings)
-    ∙ ap (λ b. (b || words_have bindings w) || rest) (none-used x.qualifiers t)
-    ∙ ap (λ b. b || rest) (none-bound x.bindings t)
-    ∙ none-of-records own t
+    grind (
+      arith,
+      none-of-records own t,
+      x.types,
+      x.name,
+      x.qualifiers,
+      x.bindings,
+      words-append,
+      none-typed,
+      none-named,
+      none-used,
+      none-bound,
+    )
 
 -- what a declaration names has no word of what observer methods observe
 none-in : (m : Mention) (t : List ℕ) → words_have (words_named_in m) (word_at reasons.Observes t) ≡ false
@@ -173,9 +147,7 @@ none-in (EventOf e) t = none-used e.qualifiers t
 
 none-in-any : (ms : List Mention) (t : List ℕ) → words_have (flat_map words_named_in ms) (word_at reasons.Observes t) ≡ false
 none-in-any [] t = refl
-none-in-any (m ∷ ms) t =
-    words-append (word_at reasons.Observes t) (words_named_in m) (flat_map words_named_in ms)
-    ∙ ap (λ b. b || words_have (flat_map words_named_in ms) (word_at reasons.Observes t)) (none-in m t) ∙ none-in-any ms t
+none-in-any (m ∷ ms) t = grind (arith, none-in-any ms t, words-append, none-in)
 
 none-written : (m : Mention) (t : List ℕ) → words_have (words_written_in m) (word_at reasons.Observes t) ≡ false
 none-written (PointOf place point) t = refl
@@ -190,29 +162,18 @@ none-written (EventOf e) t = refl
 
 none-written-any : (ms : List Mention) (t : List ℕ) → words_have (flat_map words_written_in ms) (word_at reasons.Observes t) ≡ false
 none-written-any [] t = refl
-none-written-any (m ∷ ms) t =
-    words-append (word_at reasons.Observes t) (words_written_in m) (flat_map words_written_in ms)
-    ∙ ap (λ b. b || words_have (flat_map words_written_in ms) (word_at reasons.Observes t)) (none-written m t) ∙ none-written-any ms t
+none-written-any (m ∷ ms) t = grind (arith, none-written-any ms t, words-append, none-written)
 
 none-of-named : (d : Decl) (t : List ℕ) → words_have (words_named d) (word_at reasons.Observes t) ≡ false
 unfolding words_named
-none-of-named d t =
-    let w : Word = word_at reasons.Observes t in
-    let written : List Word = flat_map words_written_in (mentions d) in
-    words-append w (flat_map words_named_in (mentions d)) written
-    ∙ ap (λ b. b || words_have written w) (none-in-any (mentions d) t) ∙ none-written-any (mentions d) t
+none-of-named d t = grind (arith, words-append, none-in-any, none-written-any)
 
 observed : (observers : List ObserverDecl) (t : List ℕ)
     → words_have (flat_map words_of_observer observers) (word_at reasons.Observes t)
     ≡ list_any (λ o. bytes_eq t o.event_type) observers
 observed [] t = refl
 observed (o ∷ observers) t =
-    let w : Word = word_at reasons.Observes t in
-    let rest : List Word = flat_map words_of_observer observers in
-    words-append w (words_of_observer o) rest
-    ∙ ap (λ b. (bytes_eq o.event_type t || b) || words_have rest w) (none-used o.qualifiers t)
-    ∙ ap (λ b. b || words_have rest w) (or-false (bytes_eq o.event_type t) ∙ bytes_eq-turned o.event_type t)
-    ∙ ap (λ b. bytes_eq t o.event_type || b) (observed observers t)
+    grind (arith, observed observers t, o.event_type, o.qualifiers, words-append, none-used, or-false, bytes_eq-turned)
 
 words-observed : (ds : List Decl) (b : BeanDecl) (t : List ℕ)
     → words_have (words_of_bean ds b) (word_at reasons.Observes t) ≡ list_any (λ o. bytes_eq t o.event_type) b.observers
@@ -262,7 +223,4 @@ observing-one ds types other = none-had (map (word_at reasons.Observes) types)
 pub of-observers : (ds : List Decl) (types : List (List ℕ))
     → filter (λ b. true) (beans_under ds (map (word_at reasons.Observes) types))
     ≡ flat_map (entries ds) (filter (observes_one types) ds)
-of-observers ds types =
-    filter-each (beans_under ds (map (word_at reasons.Observes) types))
-    ∙ ap (flat_map (entries ds))
-    (filter-same (has_one ds (map (word_at reasons.Observes) types)) (observes_one types) ds (observing-one ds types))
+of-observers ds types = grind (arith, filter-each, filter-same, observing-one)

@@ -1,8 +1,8 @@
 -- What a stage tells, and the declarations after it.
-use Rattle.cdi_index.proofs.Common.{◌≡◌, ℕ, Bool, true, false, ◌&&◌, List, [], ◌∷◌, map, Option, Some, None, refl, sym, ap, ◌∙◌, list_any}
-use Rattle.cdi_index.proofs.Common.{or_parts, Decl, DeclKey, key_at, same_key, is_among, Made, is_kept, made_of, reads, and_from, or_left}
-use Rattle.cdi_index.proofs.Common.{AreDistinct, Listing, Shelf, stored, IsExact, IsShelf, IsSound, suc, cond, Change, Stored, made_in}
-use Rattle.cdi_index.proofs.Common.{applied, change_of, stored_as, made_after, lent, is_at_stake, replaced_records, Tells}
+use Rattle.cdi_index.proofs.Common.{◌≡◌, ℕ, Bool, true, false, ◌&&◌, List, [], ◌∷◌, map, Option, refl, sym, ap, ◌∙◌, list_any, or_parts}
+use Rattle.cdi_index.proofs.Common.{Decl, DeclKey, key_at, same_key, is_among, is_kept, made_of, reads, and_from, or_left, AreDistinct}
+use Rattle.cdi_index.proofs.Common.{Listing, Shelf, stored, IsExact, IsShelf, IsSound, suc, Change, Stored, made_in, applied, change_of}
+use Rattle.cdi_index.proofs.Common.{made_after, lent, is_at_stake, replaced_records, Tells, arith}
 use Rattle.cdi_model.specs.declared.decl.Kind.TheVariants as kinds
 use Rattle.cdi_index.proofs.AffectedLemmas.{hits, hit-parts}
 use Rattle.cdi_index.proofs.ChangeLemmas.{none-of}
@@ -52,13 +52,4 @@ module _ (ds es : List Decl) (keys ks told : List DeclKey) (shelf : Shelf) (list
 pub made-applied : (n : ℕ) (cs : List Change) (m : DeclKey → Option Stored) (k : DeclKey)
     → made_after cs (made_in (m k)) k ≡ made_in (applied n cs m k)
 made-applied n [] m k = refl
-made-applied n (c ∷ cs) m k = by (same_key c.key k) (made-applied (suc n) cs m k)
-  where
-    at : (o : Option Made) → o ≡ made_in (stored_as n (record { key = c.key; made = o }))
-    at None = refl
-    at (Some made) = refl
-
-    by : (b : Bool) → made_after cs (made_in (m k)) k ≡ made_in (applied (suc n) cs m k)
-        → cond b c.made (made_after cs (made_in (m k)) k) ≡ made_in (cond b (stored_as n c) (applied (suc n) cs m k))
-    by true more = at c.made
-    by false more = more
+made-applied n (c ∷ cs) m k = grind (arith, made-applied (suc n) cs m k, c.key, c.made)

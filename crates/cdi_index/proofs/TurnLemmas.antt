@@ -1,6 +1,6 @@
 -- Turns that are taken over one after another, and those of some beans.
-use Rattle.cdi_index.proofs.Common.{◌≡◌, Bool, true, false, ◌||◌, List, [], ◌∷◌, map, Option, refl, sym, ap, ◌∙◌, list_any, DeclKey}
-use Rattle.cdi_index.proofs.Common.{same_key, key_exact, Effective, ◌++◌, ◌+◌, cond, same_key_equiv, Turn, turned}
+use Rattle.cdi_index.proofs.Common.{◌≡◌, List, [], ◌∷◌, map, Option, refl, ap, list_any, DeclKey, same_key, key_exact, Effective, ◌++◌, ◌+◌}
+use Rattle.cdi_index.proofs.Common.{cond, same_key_equiv, Turn, turned, arith}
 
 abbrev pub RecordsOf : Type 0
 RecordsOf = DeclKey → Option (List Effective)
@@ -17,9 +17,7 @@ turned-same (t ∷ ts) f g h k = ap (λ o. cond (same_key t.key k) t.records o) 
 -- the last turn is taken over
 pub turned-next : (ts rest : List Turn) (t : Turn) (f g : RecordsOf) → ts ≡ rest ++ t ∷ []
     → ((k : DeclKey) → g k ≡ cond (same_key t.key k) t.records (f k)) → (k : DeclKey) → turned rest g k ≡ turned ts f k
-turned-next ts rest t f g is made k =
-    turned-same rest g (λ l. cond (same_key t.key l) t.records (f l)) made k
-    ∙ sym (turned-push rest t f k) ∙ ap (λ us. turned us f k) (sym is)
+turned-next ts rest t f g is made k = grind (arith, t.key, t.records, turned-same, turned-push)
 
 abbrev pub turn_to : RecordsOf → DeclKey → Turn
 turn_to after k = record { key = k; records = after k }
@@ -28,10 +26,4 @@ turn_to after k = record { key = k; records = after k }
 pub turned-all : (after : RecordsOf) (ks : List DeclKey) (f : RecordsOf) (k : DeclKey)
     → turned (map (turn_to after) ks) f k ≡ cond (list_any (same_key k) ks) (after k) (f k)
 turned-all after [] f k = refl
-turned-all after (l ∷ ks) f k = by (same_key l k) refl (turned-all after ks f k)
-  where
-    by : (b : Bool) → same_key l k ≡ b → turned (map (turn_to after) ks) f k ≡ cond (list_any (same_key k) ks) (after k) (f k)
-        → cond b (after l) (turned (map (turn_to after) ks) f k) ≡ cond (same_key k l || list_any (same_key k) ks) (after k) (f k)
-    by true e more = ap after (key_exact l k e)
-        ∙ ap (λ c. cond (c || list_any (same_key k) ks) (after k) (f k)) (sym (same_key_equiv.symm k l ∙ e))
-    by false e more = more ∙ ap (λ c. cond (c || list_any (same_key k) ks) (after k) (f k)) (sym (same_key_equiv.symm k l ∙ e))
+turned-all after (l ∷ ks) f k = grind (arith, turned-all after ks f k, key_exact, same_key_equiv.symm)

@@ -1,13 +1,12 @@
 -- The declarations that are under words, by their positions.
 use Rattle.cdi_index.proofs.Common.{◌≡◌, ℕ, Bool, true, false, ◌||◌, List, [], ◌∷◌, Option, Some, None, option_map, refl, sym, ap, ◌∙◌}
-use Rattle.cdi_index.proofs.Common.{list_any, BeanDecl, BindingDecl, Decl, Kind, DeclKey, key_at, same_key, find_decl, key_exact}
-use Rattle.cdi_index.proofs.Common.{find_binding, as_bean, Made, made_of, made_of_bean, made_of_binding, made_of_interceptor, made_of_type}
-use Rattle.cdi_index.proofs.Common.{◌++◌, flat_map, option_map_or, false≢true, or_right, key_of, AreDistinct, Word, Listing, under, Kept}
-use Rattle.cdi_index.proofs.Common.{Shelf, kept_at, stored, IsExact, IsShelf, IsSound, words_have, words_by, suc, ◌+◌, cond, filter}
-use Rattle.cdi_index.proofs.Common.{same_key_equiv, Stored, made_in, nat_eq, arith, slot_of, position, classes_have, keys_have, eqb-true}
-use Rattle.cdi_index.proofs.Common.{stored_at, is_of, records_declared, records_in, position-there, entries, made_by, beans_under, has_one}
-use Rattle.cdi_index.proofs.Common.{is_at, records_at, is_marked, marked_from, is_at_slots, is_at_words, slice_get, any-more, nat_eq-refl}
-use Rattle.cdi_index.proofs.Common.{same-bool}
+use Rattle.cdi_index.proofs.Common.{list_any, BeanDecl, Decl, Kind, DeclKey, key_at, same_key, find_decl, key_exact, as_bean, Made, made_of}
+use Rattle.cdi_index.proofs.Common.{made_of_bean, made_of_interceptor, ◌++◌, flat_map, option_map_or, false≢true, or_right, key_of}
+use Rattle.cdi_index.proofs.Common.{AreDistinct, Word, Listing, under, Kept, Shelf, kept_at, stored, IsExact, IsShelf, IsSound, words_have}
+use Rattle.cdi_index.proofs.Common.{words_by, suc, ◌+◌, cond, filter, same_key_equiv, Stored, made_in, nat_eq, arith, slot_of, position}
+use Rattle.cdi_index.proofs.Common.{classes_have, keys_have, eqb-true, is_of, records_in, position-there, entries, made_by, beans_under}
+use Rattle.cdi_index.proofs.Common.{has_one, is_at, records_at, is_marked, marked_from, is_at_slots, is_at_words, slice_get, any-more}
+use Rattle.cdi_index.proofs.Common.{nat_eq-refl, same-bool}
 use Rattle.cdi_model.specs.declared.decl.Decl.TheVariants as decls
 use Rattle.cdi_model.specs.declared.decl.Kind.TheVariants as kinds
 use Rattle.cdi_effective.proofs.PlaceLemmas.{own-found, own-place, own-position, place-found}
@@ -19,22 +18,12 @@ use Rattle.cdi_index.proofs.ShelfLemmas.{found}
 pub records-of-bean : (ds : List Decl) (p : ℕ) (bean : BeanDecl) → AreDistinct ds → slice_get ds p ≡ Some (decls.Bean bean)
     → records_in ds bean.name ≡ records_at ds p
 unfolding records_in
-records-of-bean ds p bean distinct at =
-    ap (records_declared ds) (place-found ds bean p (own-place ds p bean distinct at))
-    ∙ sym (ap (λ o. option_map_or (entries ds) o []) at)
+records-of-bean ds p bean distinct at = grind (arith, place-found, own-place)
 
 -- a declaration that is found has the key
 pub key-found : (kind : Kind) (name : List ℕ) (ds : List Decl) (d : Decl) → find_decl kind name ds ≡ Some d → key_at kind name ≡ key_of d
 key-found kind name [] d e = absurd (let no : None ≡ Some d = e in cc)
-key-found kind name (x ∷ ds) d e = by (is_of kind name x) refl e (key-found kind name ds d)
-  where
-    by : (b : Bool) → is_of kind name x ≡ b → cond b (Some x) (find_decl kind name ds) ≡ Some d
-        → (find_decl kind name ds ≡ Some d → key_at kind name ≡ key_of d) → key_at kind name ≡ key_of d
-    by true is f more =
-        let one : Some x ≡ Some d = f in
-        let same : x ≡ d = cc in
-        key_exact (key_at kind name) (key_of x) is ∙ ap key_of same
-    by false is f more = more f
+key-found kind name (x ∷ ds) d e = grind (arith, key-found kind name ds d, key_exact)
 
 -- ---- what is marked
 
@@ -47,20 +36,11 @@ record At (ds : List Decl) (w : Word) (kept : Option Kept) (p : ℕ) : Type 0 wh
 
 is-at : (ds : List Decl) (w : Word) (kept : Option Kept) (p : ℕ) → is_at ds w kept p ≡ true → At ds w kept p
 is-at ds w None p h = absurd (false≢true h)
-is-at ds w (Some e) p h = by (words_have e.made.words w) refl (position (is_of e.key.kind e.key.name) ds) refl h
-  where
-    by : (b : Bool) → words_have e.made.words w ≡ b → (o : Option ℕ) → position (is_of e.key.kind e.key.name) ds ≡ o
-        → option_map_or (λ i. nat_eq i p) (cond b o None) false ≡ true → At ds w (Some e) p
-    by false is o at f = absurd (false≢true f)
-    by true is None at f = absurd (false≢true f)
-    by true is (Some i) at f = record { entry = e; there = refl; has = is; place = at ∙ ap Some (eqb-true i p f) }
+is-at ds w (Some e) p h = grind (arith, e.made.words, e.key.kind, e.key.name, false≢true, eqb-true)
 
 at-is : (ds : List Decl) (w : Word) (kept : Option Kept) (p : ℕ) (e : Kept) → kept ≡ Some e → words_have e.made.words w ≡ true
     → position (is_of e.key.kind e.key.name) ds ≡ Some p → is_at ds w kept p ≡ true
-at-is ds w kept p e there has place =
-    ap (λ k. is_at ds w k p) there
-    ∙ ap (λ b. option_map_or (λ i. nat_eq i p) (cond b (position (is_of e.key.kind e.key.name) ds) None) false) has
-    ∙ ap (λ o. option_map_or (λ i. nat_eq i p) o false) place ∙ nat_eq-refl p
+at-is ds w kept p e there has place = grind (arith, e.key.kind, e.key.name, nat_eq-refl)
 
 -- what is made has a word, so it is of a declaration which has that
 abbrev OfDecl : List Decl → List Word → ℕ → Type 0
@@ -71,11 +51,7 @@ some-made a b h = cc
 
 of-decl : (ds : List Decl) (kind : Kind) (name : List ℕ) (made : Made) (w : Word) (p : ℕ) → made_by kind name ds ≡ Some made
     → words_have made.words w ≡ true → position (is_of kind name) ds ≡ Some p → OfDecl ds made.words p
-of-decl ds kinds.Type name made w p is has at = absurd (by (find_decl kinds.Type name ds) is)
-  where
-    by : (o : Option Decl) → option_map (λ d. made_of_type ds name) o ≡ Some made → ⊥
-    by None e = let no : None ≡ Some made = e in cc
-    by (Some d) e = false≢true (ap (λ (m : Made). words_have m.words w) (some-made (made_of_type ds name) made e) ∙ has)
+of-decl ds kinds.Type name made w p is has at = grind (arith, false≢true, some-made)
 of-decl ds kinds.Bean name made w p is has at = by (find_decl kinds.Bean name ds) refl is
   where
     none : (o : Option Made) → o ≡ None → o ≡ Some made → OfDecl ds made.words p
@@ -95,11 +71,7 @@ of-decl ds kinds.Bean name made w p is has at = by (find_decl kinds.Bean name ds
     by (Some (decls.Stereotype d)) e f = none None refl f
     by (Some (decls.Interceptor d)) e f = none None refl f
 of-decl ds kinds.Qualifier name made w p is has at = absurd (let no : None ≡ Some made = is in cc)
-of-decl ds kinds.Binding name made w p is has at = absurd (by (find_binding name ds) is)
-  where
-    by : (o : Option BindingDecl) → option_map (made_of_binding ds) o ≡ Some made → ⊥
-    by None e = let no : None ≡ Some made = e in cc
-    by (Some d) e = false≢true (ap (λ (m : Made). words_have m.words w) (some-made (made_of_binding ds d) made e) ∙ has)
+of-decl ds kinds.Binding name made w p is has at = grind (arith, false≢true, some-made)
 of-decl ds kinds.Stereotype name made w p is has at = absurd (let no : None ≡ Some made = is in cc)
 of-decl ds kinds.Interceptor name made w p is has at = by (find_decl kinds.Interceptor name ds) refl is
   where
@@ -124,10 +96,7 @@ of-decl ds kinds.Interceptor name made w p is has at = by (find_decl kinds.Inter
 module _ (ds : List Decl) (shelf : Shelf) (listings : List Listing) (shelved : IsShelf shelf) (exact : IsExact ds (stored shelf))
     (sound : IsSound (stored shelf) listings) (distinct : AreDistinct ds) where
   pub made-at : (s : ℕ) (e : Kept) → kept_at shelf s ≡ Some e → made_of ds e.key ≡ Some e.made
-  made-at s e there =
-      sym (exact e.key)
-      ∙ ap (λ o. made_in (stored_at (kept_at shelf) o)) (shelved.owned s e there)
-      ∙ ap (λ o. made_in (option_map {U = Stored} (λ k. (s, k.made)) o)) there
+  made-at s e there = grind (arith, e.key)
 
   one-decl : (p : ℕ) (d e : Decl) → slice_get ds p ≡ Some d → slice_get ds p ≡ Some e → e ≡ d
   one-decl p d e first second = let same : Some e ≡ Some d = sym second ∙ first in cc
@@ -135,10 +104,7 @@ module _ (ds : List Decl) (shelf : Shelf) (listings : List Listing) (shelved : I
   -- a slot that marks a position is of the declaration there, which has the word
   marks-only : (p s : ℕ) (w : Word) → is_at ds w (kept_at shelf s) p ≡ true
       → (d : Decl) × (slice_get ds p ≡ Some d) × (words_have (words_by ds d) w ≡ true)
-  marks-only p s w h =
-      let at = is-at ds w (kept_at shelf s) p h in
-      let of = of-decl ds at.entry.key.kind at.entry.key.name at.entry.made w p (made-at s at.entry at.there) at.has at.place in
-      (of.0, of.1, ap (λ ws. words_have ws w) of.2 ∙ at.has)
+  marks-only p s w h = grind (arith, is-at, of-decl, made-at)
 
   -- what is made of a declaration has a word, so a test that says so of its slot is true of one that is listed
   pub listed-at : (w : Word) (k : DeclKey) (m : Made) (test : ℕ → Bool) → made_of ds k ≡ Some m → words_have m.words w ≡ true
@@ -160,9 +126,7 @@ module _ (ds : List Decl) (shelf : Shelf) (listings : List Listing) (shelved : I
   -- so its position is marked by its slot
   marks-from : (p : ℕ) (w : Word) (k : DeclKey) (m : Made) → made_of ds k ≡ Some m → position (is_of k.kind k.name) ds ≡ Some p
       → words_have m.words w ≡ true → is_at_slots ds shelf w (under listings w) p ≡ true
-  marks-from p w k m is place has = listed-at w k m (λ s. is_at ds w (kept_at shelf s) p) is has (λ s e there key made.
-      at-is ds w (kept_at shelf s) p e there (ap (λ (x : Made). words_have x.words w) made ∙ has)
-      (ap (λ (x : DeclKey). position (is_of x.kind x.name) ds) key ∙ place))
+  marks-from p w k m is place has = grind (arith, listed-at, at-is)
 
   -- a declaration that has a word is marked by its slot
   marks-if : (p : ℕ) (d : Decl) (w : Word) → slice_get ds p ≡ Some d → words_have (words_by ds d) w ≡ true
