@@ -1,6 +1,6 @@
 -- The places of beans, noted one bean after another.
-use Rattle.std.proofs.Common.{◌≡◌, ◌<◌, ◌+◌, ℕ, Bool, true, false, cond, Less, Option, Some, None, refl, sym, ap, ◌∙◌, subst, List, [], ◌∷◌}
-use Rattle.std.proofs.Common.{◌++◌, length, drop, take, get_or, map, filter, append-nil, append_assoc}
+use Rattle.std.proofs.Common.{arith, ◌≡◌, ◌<◌, ◌+◌, ℕ, Bool, true, false, cond, Less, Option, Some, None, refl, sym, ap, ◌∙◌, subst, List}
+use Rattle.std.proofs.Common.{[], ◌∷◌, ◌++◌, length, drop, take, get_or, map, filter, append-nil, append_assoc}
 use Rattle.std.specs.{Prelude.All, Prelude.position, List.AllByRecursion, List.position_from, List.slice_get, Option.option_or}
 use Rattle.std.specs.{List.Sorted.IsStrictlySortedBy, Str.bytes_eq}
 use Rattle.std.proofs.lemmas.List.{at_drop_more, map-append, take_more, Elements.All-from_recursion}
@@ -143,12 +143,7 @@ some-values value (x ∷ xs) (y ∷ ys) e =
 
 filter-twice : (p : Effective → Bool) (beans : List Effective) → filter p (filter p beans) ≡ filter p beans
 filter-twice p [] = refl
-filter-twice p (bean ∷ beans) = by (p bean) refl (filter-twice p beans)
-  where
-    by : (b : Bool) → p bean ≡ b → filter p (filter p beans) ≡ filter p beans
-        → filter p (filter p (bean ∷ beans)) ≡ filter p (bean ∷ beans)
-    by true e rest = rw e (rw e (ap (λ more. bean ∷ more) rest))
-    by false e rest = rw e rest
+filter-twice p (bean ∷ beans) = grind (arith, filter-twice p beans)
 
 -- the beans at the places of a type are enough to choose from
 pub places-enough : {X : Type 0} (value : X → Effective) (t : List ℕ) (beans : List Effective) (places : List ℕ) (xs : List X)

@@ -1,7 +1,7 @@
 -- A text cut at a byte, and put together again.
 use Rattle.cdi_uses.proofs.Common.{◌≡◌, ◌≢◌, ℕ, ◌+◌, ◌-◌, ◌<◌, Bool, true, false, cond, List, [], ◌∷◌, ◌++◌, length, take, get_or, Option}
-use Rattle.cdi_uses.proofs.Common.{Some, None, refl, ap, sym, ◌∙◌, inl, inr, arith, ◌==◌, AllByRecursion, join_with_byte, cases_Bool}
-use Rattle.cdi_uses.proofs.Common.{eqb-true, false≢true, none-some, same_Some, closing, cut, split, pieces, before_close}
+use Rattle.cdi_uses.proofs.Common.{Some, None, refl, ap, sym, ◌∙◌, arith, ◌==◌, AllByRecursion, join_with_byte, eqb-true, false≢true}
+use Rattle.cdi_uses.proofs.Common.{none-some, same_Some, closing, cut, split, pieces, before_close}
 use Rattle.std.proofs.lemmas.List.{length-append, take_all, take_at, get_or-append-add, take_more}
 use Rattle.std.specs.Prelude.{slice_index}
 use Rattle.std.proofs.lemmas.Bool.{eq-eqb}
@@ -31,10 +31,7 @@ rejoined-cons byte x front (Some rest) = refl
 
 pub cut-joined : (byte : ℕ) (text : List ℕ) → rejoined byte (cut byte text).0 (cut byte text).1 ≡ text
 cut-joined byte [] = refl
-cut-joined byte (x ∷ xs) = elim (cases_Bool (x == byte)) [
-  | inl same ↦ rw same (ap (λ c. c ∷ xs) (sym (eqb-true x byte same)))
-  | inr other ↦ rw other (rejoined-cons byte x (cut byte xs).0 (cut byte xs).1 ∙ ap (λ l. x ∷ l) (cut-joined byte xs))
-]
+cut-joined byte (x ∷ xs) = grind (arith, cut-joined byte xs, eqb-true, rejoined-cons)
 
 -- ---- what stands before a bracket at the end
 
@@ -74,14 +71,7 @@ onto_first byte x p (q ∷ qs) = refl
 
 pub split-joined : (byte : ℕ) (text : List ℕ) → join_with_byte byte (split byte text) ≡ text
 split-joined byte [] = refl
-split-joined byte (x ∷ xs) = elim (cases_Bool (x == byte)) [
-  | inl same ↦ rw same (behind_byte byte (split byte xs) _ _ (split-cut byte xs) ∙ ap (λ l. byte ∷ l) (split-joined byte xs)
-      ∙ ap (λ c. c ∷ xs) (sym (eqb-true x byte same)))
-  | inr other ↦
-      let rest : join_with_byte byte ((cut byte xs).0 ∷ pieces byte (cut byte xs).1) ≡ xs =
-      ap (join_with_byte byte) (sym (split-cut byte xs)) ∙ split-joined byte xs in
-      rw (other, split-cut byte xs) (onto_first byte x (cut byte xs).0 (pieces byte (cut byte xs).1) ∙ ap (λ l. x ∷ l) rest)
-]
+split-joined byte (x ∷ xs) = grind (arith, split-joined byte xs, behind_byte, split-cut, eqb-true, onto_first)
 
 pub split-some : (byte : ℕ) (text : List ℕ) → split byte text ≢ []
 split-some byte text e = let none : (cut byte text).0 ∷ pieces byte (cut byte text).1 ≡ [] = sym (split-cut byte text) ∙ e in cc

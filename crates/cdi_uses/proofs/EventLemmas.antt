@@ -1,9 +1,9 @@
 -- What it means to be an event text, and what is read back.
-use Rattle.cdi_uses.proofs.Common.{◌≡◌, ◌≢◌, ℕ, Bool, true, false, List, [], ◌∷◌, ◌++◌, map, codes, refl, ap, sym, ◌∙◌, inl, inr, subst}
-use Rattle.cdi_uses.proofs.Common.{arith, Less, Greater, Ok, append_assoc, append-nil, ◌==◌, ◌↔◌, ◌||◌, not, AllByRecursion, join_with_byte}
-use Rattle.cdi_uses.proofs.Common.{list_all, list_any, IsStrictlySortedBy, bytes_eq, and_parts, and_from, not-true, closing, comma, opening}
-use Rattle.cdi_uses.proofs.Common.{space, is_name, text_of_use, Qual, is_event_use, uses_in, SpellsUse, qual_of, has_twice, is_use}
-use Rattle.cdi_uses.proofs.Common.{use_name, use_of, repeats_member, quals_from}
+use Rattle.cdi_uses.proofs.Common.{◌≡◌, ◌≢◌, ℕ, true, false, List, [], ◌∷◌, ◌++◌, map, codes, refl, ap, sym, ◌∙◌, inl, inr, subst, arith}
+use Rattle.cdi_uses.proofs.Common.{Less, Greater, Ok, append_assoc, append-nil, ◌==◌, ◌↔◌, ◌||◌, AllByRecursion, join_with_byte, list_all}
+use Rattle.cdi_uses.proofs.Common.{list_any, IsStrictlySortedBy, and_parts, and_from, not-true, closing, comma, opening, space, is_name}
+use Rattle.cdi_uses.proofs.Common.{text_of_use, Qual, is_event_use, uses_in, SpellsUse, qual_of, has_twice, is_use, use_name, use_of}
+use Rattle.cdi_uses.proofs.Common.{repeats_member, quals_from}
 use Rattle.cdi_model.specs.{Bytes.byte_order, EventText.text_of_event, EventText.text_of_uses, Quals.name_of_use, Quals.put_use}
 use Rattle.cdi_uses.proofs.CutLemmas.{Lacks, split-joined, joined-split}
 use Rattle.cdi_uses.proofs.PieceLemmas.{split-cut}
@@ -39,16 +39,7 @@ use_lacks text (inr (inr m)) =
 -- ---- uses that an event may have
 
 pub event_use_meaning : (text : List ℕ) → (is_event_use text ≡ true) ↔ SpellsEventUse text
-event_use_meaning text = (there, back)
-  where
-    there : is_event_use text ≡ true → SpellsEventUse text
-    there h =
-        let (is, other) = and_parts (is_use text) (not (bytes_eq text (codes "Default"))) h in
-        ((use_meaning text).0 is, not_text text (codes "Default") (not-true (bytes_eq text (codes "Default")) other))
-
-    back : SpellsEventUse text → is_event_use text ≡ true
-    back s = and_from (is_use text) (not (bytes_eq text (codes "Default"))) ((use_meaning text).1 s.0)
-        (ap not (other_text text (codes "Default") s.1))
+event_use_meaning text = grind (arith, use_meaning, not_text, not-true, other_text)
 
 spells_each : (uses : List (List ℕ)) → list_all is_event_use uses ≡ true → AllByRecursion SpellsEventUse uses
 spells_each [] h = tt
@@ -91,12 +82,7 @@ parted event_type uses first rest =
     record { event_type = cc; uses = cc }
 
 spelt : (text : List ℕ) → SpellsEvent text → is_event text ≡ true
-spelt text s =
-    let parts = parted s.event_type s.uses (name_lacks space (refl, refl) s.event_type s.grammar) (each_lacks s.uses s.each) in
-    ap is_event s.joined
-    ∙ and_from (is_name (type_in (join_with_byte space (s.event_type ∷ s.uses))))
-    (list_all is_event_use (uses_in (join_with_byte space (s.event_type ∷ s.uses))))
-    (ap is_name parts.event_type ∙ s.grammar) (ap (list_all is_event_use) parts.uses ∙ each_spelt s.uses s.each)
+spelt text s = grind (arith, s.event_type, s.uses, s.grammar, s.each, s.joined, parted, name_lacks, each_lacks, each_spelt)
 
 pub event_meaning : (text : List ℕ) → (is_event text ≡ true) ↔ SpellsEvent text
 event_meaning text = (spells text, spelt text)
@@ -110,12 +96,7 @@ record ReadsAsUse (text : List ℕ) (u : Qual) : Type 0 where
   says : use_of text ≡ u
 
 read_as_use : (text : List ℕ) (u : Qual) → qual_of text ≡ Ok u → ReadsAsUse text u
-read_as_use text u e = by (is_use text) refl (repeats_member text) refl
-  where
-    by : (is : Bool) → is_use text ≡ is → (twice : Bool) → repeats_member text ≡ twice → ReadsAsUse text u
-    by true i false t = let same = rw (i, t) at e in record { grammar = i; once = t; says = cc }
-    by true i true t = let same = rw (i, t) at e in absurd (cc)
-    by false i twice t = let same = rw i at e in absurd (cc)
+read_as_use text u e = grind arith
 
 use_again : (u : Qual) → IsOfEvent u → ReadsAsUse (text_of_use u) u
 use_again u of = read_as_use (text_of_use u) u (uses_read_back u of.0)

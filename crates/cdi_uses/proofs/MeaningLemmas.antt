@@ -1,13 +1,12 @@
 -- What it means to be a use of a qualifier.
 use Rattle.cdi_uses.proofs.Common.{◌≡◌, ◌≢◌, ℕ, ℤ, Bool, true, false, List, [], ◌∷◌, ◌++◌, length, codes, Option, Some, None, refl, ap, sym}
 use Rattle.cdi_uses.proofs.Common.{◌∙◌, inl, inr, subst, ◌<◌, arith, ◌==◌, ◌↔◌, not, nat_le, AllByRecursion, join_with_byte, bytes_eq}
-use Rattle.cdi_uses.proofs.Common.{cases_Bool, and_parts, and_from, not-true, eqb-true, ne_eqb, false≢true, closing, comma, equals_sign}
-use Rattle.cdi_uses.proofs.Common.{minus, opening, is_name, number_of, cut, split, are_pairs, before_close, is_named, is_use, WritesMember}
-use Rattle.cdi_uses.proofs.Common.{SpellsUse}
+use Rattle.cdi_uses.proofs.Common.{and_parts, and_from, not-true, eqb-true, ne_eqb, false≢true, closing, comma, equals_sign, minus, opening}
+use Rattle.cdi_uses.proofs.Common.{is_name, number_of, cut, split, are_pairs, before_close, is_named, is_use, WritesMember, SpellsUse}
 use Rattle.std.specs.{Prelude.is_some, Cmp.Lexicographic.bytes_decides}
 use Rattle.std.proofs.lemmas.Bool.{or_parts}
 use Rattle.base_numbers.proofs.Texts.{one_text}
-use Rattle.cdi_model.specs.Grammar.{is_letter, is_word, are_words, is_ident_text, is_ident, begins, goes_on}
+use Rattle.cdi_model.specs.Grammar.{is_letter, is_word, are_words, is_ident, begins, goes_on}
 use Rattle.cdi_model.specs.Bytes.{dot}
 use Rattle.cdi_model.proofs.BeanNameLemmas.{letter_is_word}
 use Rattle.cdi_uses.proofs.CutLemmas.{Lacks, rejoined, cut-none, cut-at, cut-joined, before_close-at, before_close-joined, split-joined}
@@ -22,10 +21,7 @@ abbrev pub IsApart : ℕ → Type 0
 IsApart byte = (is_word byte ≡ false) × ((dot == byte) ≡ false)
 
 apart_byte : (b byte : ℕ) → IsApart byte → is_word b ≡ true → (b == byte) ≡ false
-apart_byte b byte apart word = elim (cases_Bool (b == byte)) [
-  | inl same ↦ absurd (false≢true (sym apart.0 ∙ ap is_word (sym (eqb-true b byte same)) ∙ word))
-  | inr other ↦ other
-]
+apart_byte b byte apart word = grind (arith, apart.0, false≢true, eqb-true)
 
 words_lack : (byte : ℕ) → IsApart byte → (text : List ℕ) → are_words text ≡ true → Lacks byte text
 words_lack byte apart [] h = tt
@@ -35,9 +31,7 @@ words_lack byte apart (b ∷ bs) h =
 
 pub ident_lacks : (byte : ℕ) → IsApart byte → (text : List ℕ) → is_ident text ≡ true → Lacks byte text
 ident_lacks byte apart [] h = tt
-ident_lacks byte apart (b ∷ bs) h =
-    let (letter, rest) = and_parts (is_letter b) (are_words bs) (and_parts (is_ident_text (b ∷ bs)) (nat_le (length (b ∷ bs)) 64) h).0 in
-    (apart_byte b byte apart (letter_is_word b letter), words_lack byte apart bs rest)
+ident_lacks byte apart (b ∷ bs) h = grind (arith, apart_byte, letter_is_word, words_lack)
 
 mutual
   begins_lacks : (byte : ℕ) → IsApart byte → (text : List ℕ) → begins text ≡ true → Lacks byte text
@@ -73,9 +67,7 @@ member_from piece name (Some value) joined h = by (is_ident name) (number_of val
     by false number i n = absurd (let no : false ≡ true = rw i at h in false≢true no)
 
 pub pair_written : (piece : List ℕ) (m : WritesMember piece) → pair_of piece ≡ Some (m.name, m.value)
-pair_written piece m =
-    ap pair_of m.joined
-    ∙ (rw (cut-at equals_sign m.name m.number (ident_lacks equals_sign (refl, refl) m.name m.ident), m.ident, m.writes) refl)
+pair_written piece m = grind (arith, m.joined, m.name, m.number, m.ident, m.writes, cut-at, ident_lacks)
 
 members_from_pieces : (pieces : List (List ℕ)) → are_pairs pieces ≡ true → AllByRecursion WritesMember pieces
 members_from_pieces [] h = tt
@@ -113,10 +105,7 @@ members_lack_commas = members_lack comma ((refl, refl), omega arith)
 -- ---- uses
 
 pub other_text : (a b : List ℕ) → a ≢ b → bytes_eq a b ≡ false
-other_text a b other = elim (cases_Bool (bytes_eq a b)) [
-  | inl same ↦ absurd (other (one_text a b same))
-  | inr e ↦ e
-]
+other_text a b other = grind (arith, one_text)
 
 pub not_text : (a b : List ℕ) → bytes_eq a b ≡ false → a ≢ b
 not_text a b h e = false≢true (sym h ∙ (bytes_decides a b).1 e)
@@ -147,12 +136,7 @@ with_inner text name inner joined grammar h = by (is_named name) refl
         }))
 
 spelled_by : (text name : List ℕ) (rest : Option (List ℕ)) → rejoined opening name rest ≡ text → is_use_of name rest ≡ true → SpellsUse text
-spelled_by text name None joined h =
-    let (grammar, other) = and_parts (is_name name) (not (is_named name)) h in
-    inl (record {
-      grammar = ap is_name (sym joined) ∙ grammar;
-      not_named = λ e. not_text name (codes "Named") (not-true (is_named name) other) (joined ∙ e);
-    })
+spelled_by text name None joined h = grind (arith, not_text, not-true)
 spelled_by text name (Some rest) joined h =
     let (grammar, inside) = and_parts (is_name name) (is_inside name (before_close rest)) h in
     by (before_close rest) refl grammar inside
@@ -170,9 +154,7 @@ use_inside name inner grammar h =
     (and_from (is_name name) (is_inside name (Some inner)) grammar h)
 
 is_spelled : (text : List ℕ) → SpellsUse text → is_use text ≡ true
-is_spelled text (inl bare) =
-    rw (cut-none opening text (name_lacks opening (refl, refl) text bare.grammar))
-    (and_from (is_name text) (not (is_named text)) bare.grammar (ap not (other_text text (codes "Named") bare.not_named)))
+is_spelled text (inl bare) = grind (arith, bare.grammar, bare.not_named, cut-none, name_lacks, other_text)
 is_spelled text (inr (inl named)) = ap is_use named.joined ∙ use_inside (codes "Named") named.inner refl named.grammar
 is_spelled text (inr (inr m)) =
     ap is_use m.joined ∙ use_inside m.name (join_with_byte comma m.members) m.grammar

@@ -1,17 +1,15 @@
 -- The text of a number is read back as it.
-use Rattle.cdi_uses.proofs.Common.{◌≡◌, ℕ, ℤ, pos, suc, ◌+◌, ◌-◌, ◌*◌, ◌<◌, ◌≤◌, Bool, true, false, List, [], ◌∷◌, ◌++◌, length, Option}
-use Rattle.cdi_uses.proofs.Common.{Some, None, refl, ap, sym, ◌∙◌, inl, inr, arith, ◌==◌, nat_le, option_map, AllByRecursion, neg_ℤ}
-use Rattle.cdi_uses.proofs.Common.{cases_Bool, and_parts, and_from, leb-true, ne_eqb, eqb-true, none-some, same_Some, digit_zero, minus}
-use Rattle.cdi_uses.proofs.Common.{is_digit, value_after, magnitude, within, number_of}
+use Rattle.cdi_uses.proofs.Common.{◌≡◌, ℕ, ℤ, pos, suc, ◌+◌, ◌-◌, ◌*◌, ◌<◌, ◌≤◌, Bool, true, false, List, [], ◌∷◌, ◌++◌, length, Some, refl}
+use Rattle.cdi_uses.proofs.Common.{ap, ◌∙◌, inl, inr, arith, ◌==◌, nat_le, option_map, AllByRecursion, neg_ℤ, cases_Bool, and_parts}
+use Rattle.cdi_uses.proofs.Common.{leb-true, ne_eqb, eqb-true, none-some, same_Some, digit_zero, minus, is_digit, value_after, magnitude}
+use Rattle.cdi_uses.proofs.Common.{within, number_of}
 use Rattle.std.proofs.Common.{negsuc, ◌/◌, ◌%◌, ◌^◌, decimal}
 use Rattle.std.proofs.lemmas.{Bool.le-leb, Fmt.decimal_by_steps, Fmt.decimal_nonempty}
 use Rattle.cdi_model.specs.Bytes.{digit_nine}
 use Rattle.cdi_uses.specs.Meaning.{NumbersReadBack}
 
 digit : (d : ℕ) → d < 10 → is_digit (digit_zero + d) ≡ true
-digit d h =
-    and_from (nat_le digit_zero (digit_zero + d)) (nat_le (digit_zero + d) digit_nine)
-    (le-leb digit_zero (digit_zero + d) (omega arith)) (le-leb (digit_zero + d) digit_nine (omega arith))
+digit d h = grind (arith, le-leb)
 
 -- one more digit
 pushed : (n : ℕ) (ds : List ℕ) (v c : ℕ) → value_after n ds ≡ Some v → is_digit c ≡ true
@@ -37,19 +35,10 @@ value-decimal n h = decimal_by_steps (λ m ds. value_after 0 ds ≡ Some m) one 
 -- digits alone are a number, if it is small enough
 of_digits : (ds : List ℕ) (n : ℕ) → 0 < length ds → value_after 0 ds ≡ Some n → n ≤ 9223372036854775807 → number_of ds ≡ Some (pos n)
 of_digits [] n some e small = absurd (omega arith)
-of_digits (c ∷ cs) n some e small = by (is_digit c) refl
-  where
-    by : (b : Bool) → is_digit c ≡ b → number_of (c ∷ cs) ≡ Some (pos n)
-    by true is =
-        let least : digit_zero ≤ c = leb-true digit_zero c (and_parts (nat_le digit_zero c) (nat_le c digit_nine) is).0 in
-        rw (ne_eqb c minus (λ same. omega arith)) (ap (λ o. option_map pos (within 9223372036854775807 o)) e
-        ∙ (rw (le-leb n 9223372036854775807 small) refl))
-    by false is = absurd (none-some n (rw is at e))
+of_digits (c ∷ cs) n some e small = grind (arith, leb-true, ne_eqb, le-leb, none-some)
 
 pub numbers_read_back : NumbersReadBack
-numbers_read_back (pos n) fits =
-    let small : n < 9223372036854775808 = fits.sfits in
-    of_digits (decimal n) n (decimal_nonempty n (omega arith)) (value-decimal n (omega arith)) (omega arith)
+numbers_read_back (pos n) fits = grind (arith, fits.sfits, of_digits, decimal_nonempty, value-decimal)
 numbers_read_back (negsuc n) fits =
     let small : n < 9223372036854775808 = fits.sfits in
     negative (decimal (suc n)) (decimal_nonempty (suc n) (omega arith)) (value-decimal (suc n) (omega arith))
@@ -77,11 +66,7 @@ digits_plain byte low n (c ∷ cs) v e = by (is_digit c) refl (digits_plain byte
 magnitude_plain : (byte : ℕ) → byte < minus → (ds : List ℕ) (most : ℕ) (f : ℕ → ℤ) (z : ℤ)
     → option_map f (within most (magnitude ds)) ≡ Some z → AllByRecursion (λ c. (c == byte) ≡ false) ds
 magnitude_plain byte low [] most f z e = tt
-magnitude_plain byte low (c ∷ cs) most f z e = by (value_after 0 (c ∷ cs)) refl
-  where
-    by : (o : Option ℕ) → value_after 0 (c ∷ cs) ≡ o → AllByRecursion (λ x. (x == byte) ≡ false) (c ∷ cs)
-    by (Some v) is = digits_plain byte low 0 (c ∷ cs) v is
-    by None is = absurd (none-some z (sym (ap (λ o. option_map f (within most o)) is) ∙ e))
+magnitude_plain byte low (c ∷ cs) most f z e = grind (arith, digits_plain, none-some)
 
 -- no byte below `-` stands in a number
 pub number_plain : (byte : ℕ) → byte < minus → (text : List ℕ) (z : ℤ) → number_of text ≡ Some z

@@ -1,10 +1,10 @@
 -- The text of a use of a qualifier is read back as it.
-use Rattle.cdi_uses.proofs.Common.{◌≡◌, ℕ, ℤ, true, false, cond, List, [], ◌∷◌, ◌++◌, map, codes, Ordering, Less, Greater, Some, None, Ok}
-use Rattle.cdi_uses.proofs.Common.{refl, inl, inr, ap, sym, ◌∙◌, append_assoc, append-nil, not, unwrap_or, insert_entry, AllByRecursion}
+use Rattle.cdi_uses.proofs.Common.{◌≡◌, ℕ, ℤ, true, false, cond, List, [], ◌∷◌, ◌++◌, map, codes, Ordering, Less, Greater, Some, Ok, refl}
+use Rattle.cdi_uses.proofs.Common.{inr, ap, sym, ◌∙◌, append_assoc, append-nil, not, unwrap_or, insert_entry, AllByRecursion}
 use Rattle.cdi_uses.proofs.Common.{join_with_byte, IsStrictlySortedBy, keys_of, nat_cmp, is_eq, ordering_reverse, bytes_eq, slice_cmp}
 use Rattle.cdi_uses.proofs.Common.{nat_list_cmp_total, is_eq-slice_cmp, closing, comma, equals_sign, opening, text_of_use, Qual, cut, split}
 use Rattle.cdi_uses.proofs.Common.{has_twice, is_text_among, member_names, members_from, with_pair, is_named, is_use, repeats_member}
-use Rattle.cdi_uses.proofs.Common.{arguments_inside, arguments_in, use_of, qual_of, WritesMember, IsMember, CanBeSpelled}
+use Rattle.cdi_uses.proofs.Common.{arguments_inside, arguments_in, use_of, qual_of, WritesMember, IsMember, CanBeSpelled, arith}
 use Rattle.std.specs.Prelude.{◌&&◌}
 use Rattle.std.specs.Fmt.{signed_decimal}
 use Rattle.cdi_model.specs.{UseText.text_of_pair, UseText.text_of_pairs, declared.quals.Arguments.Arguments}
@@ -108,13 +108,7 @@ read_as text u is once says = rw (is, once) (ap Ok says)
 
 bare_again : (name : List ℕ) → CanBeSpelled (record { name = name; arguments = arguments.Members [] })
     → qual_of (name ++ []) ≡ Ok (record { name = name; arguments = arguments.Members [] })
-bare_again name can =
-    let whole : cut opening name ≡ (name, None) = cut-none opening name (name_lacks opening (refl, refl) name can.name) in
-    ap qual_of (append-nil name)
-    ∙ read_as name (record { name = name; arguments = arguments.Members [] })
-    ((use_meaning name).1 (inl (record { grammar = can.name; not_named = can.arguments })))
-    (ap (λ p. repeats_in p.0 p.1) whole)
-    (ap (λ p. record { name = p.0; arguments = arguments_in p.0 p.1 }) whole)
+bare_again name can = grind (arith, can.name, can.arguments, cut-none, name_lacks, append-nil, read_as, use_meaning)
 
 named_again : (name inner : List ℕ) → CanBeSpelled (record { name = name; arguments = arguments.Name inner })
     → qual_of (name ++ (opening ∷ inner ++ closing ∷ [])) ≡ Ok (record { name = name; arguments = arguments.Name inner })
