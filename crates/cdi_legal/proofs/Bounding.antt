@@ -1,6 +1,6 @@
 -- The limits of a command: how often it asks bodies, and what is live at each point of its trace.
 use Rattle.cdi_legal.proofs.Common.{◌≡◌, ◌<◌, ℕ, false, refl, IsFull, InstanceId, Owner, Nobody, Scene, Ends, End, Moment, is_create, Entry}
-use Rattle.cdi_legal.proofs.Common.{Create, suc, ◌+◌, ◌≤◌, inl, inr, Bool, true, List, [], ◌∷◌, length, arith, ap, subst, sym, ◌∙◌}
+use Rattle.cdi_legal.proofs.Common.{Create, suc, ◌≤◌, inl, inr, Bool, true, List, [], ◌∷◌, length, arith, ap, subst, sym, ◌∙◌}
 use Rattle.cdi_legal.proofs.Common.{AllByRecursion, false≢true, Scope, context_of, is_of, Standing, closed, Target, Interceptor, Instance}
 use Rattle.cdi_legal.proofs.Common.{Request, Application, Point, is_normal, applied, beginning, effect, step, Effect, Throughout}
 use Rattle.cdi_legal.proofs.Common.{all-weaker}
@@ -26,16 +26,7 @@ abbrev asked_of : Moment → ℕ
 asked_of m = m.asked
 
 budget_along : (s : Scene) → IsAlong s Nothing WithinBudget
-budget_along s = record {
-  keeps = record {
-    none = λ m h. h;
-    then = λ a b c p q h. q (p h);
-    entry = λ e m m' other is h. omega (arith, ap asked_of is, h);
-  };
-  asking = λ m m' few is h. omega (arith, ap asked_of is, few);
-  may = λ b o m may. tt;
-  create = λ b i o m m' may room of_bean is h. omega (arith, ap asked_of is, h);
-}
+budget_along s = grind (arith, then)
 
 pub commands_keep_budget : CommandsKeepBudget
 commands_keep_budget s command before trace outcome after l = runs_along (budget_along s) l.runs (omega arith)
@@ -87,10 +78,7 @@ fewer-than : (n : ℕ) → (1024 ≤ n → ⊥) → n < 1024
 fewer-than n h = omega (arith, h)
 
 limit-begins : (s : Scene) (i : InstanceId) (o : Owner) (x : Standing) → (IsFull x → ⊥) → IsWithinLimit s (step x (Create i o))
-limit-begins s i o x room =
-    let few : length x.live < 1024 = fewer-than (length x.live) (λ full. room (inl full)) in
-    let more : length (step x (Create i o)).live ≡ length x.live + 1 = length-append x.live _ in
-    omega (arith, few, more)
+limit-begins s i o x room = grind (arith, x.live, fewer-than, length-append)
 
 limit_along : (s : Scene) → IsAlong s (MayBegin s) (Holds (IsWithinLimit s))
 limit_along s = everywhere (IsWithinLimit s) (limit-calm s) s (λ b i o m may room of_bean within. limit-begins s i o m.standing room)
@@ -143,9 +131,7 @@ requested_along s = everywhere (IsRequested s) (requested-calm s) s
 
 -- none is live once the request context has ended
 unrequested : (s : Scene) (x : Standing) → AllByRecursion (λ z. is_of scopes.Request z.owner ≡ false) x.live → IsRequested s (closed x)
-unrequested s x none =
-    all-weaker (λ z. is_of scopes.Request z.owner ≡ false) (λ z. z.owner ≡ Request → false ≡ true) x.live
-    (λ z other is. sym other ∙ ap (is_of scopes.Request) is) none
+unrequested s x none = grind (arith, x.live, all-weaker)
 
 pub commands_keep_requested : IsKeptByCommands (λ s before after. IsRequested s before → IsRequested s after)
 commands_keep_requested = record {

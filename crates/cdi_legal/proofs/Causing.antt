@@ -107,9 +107,7 @@ module _ (s : Scene) (before : Standing) (end : Moment) (within : end.asked ≤ 
       let there = leads h.good h.room in goes (legal_follows l) there.good (subst (HasRoom k) (sym there.same) h.room) h
 
   asked : {k : ℕ} {m m' : Moment} → m.asked < 20000 → m' ≡ ask_more m → Here k m → Here k m'
-  asked {k} {m} {m'} few is h =
-      goes ((follows_along s).asking m m' few is) (asking s m m' is h.good)
-      (subst (HasRoom k) (sym (asking-opened s m m' is)) h.room) h
+  asked {k} {m} {m'} few is h = grind (arith, h.good, h.room, goes, follows_along, asking, asking-opened)
 
   created : {k j b : ℕ} {o : Owner} (i : InstanceId) {m m' : Moment} → k ≡ j + 1 → MayBegin s b o m → (IsFull m.standing → ⊥)
       → i.bean ≡ b → m' ≡ put (entries.Create i o) m → Here k m → Here j m'
@@ -125,12 +123,7 @@ module _ (s : Scene) (before : Standing) (end : Moment) (within : end.asked ≤ 
   -- a frame is left here
   passes_left : {k : ℕ} {m : Moment} (o : Outcome) → Here k m → Onward (put (entries.Leave o) m) end
       → Passes before end (put (entries.Leave o) m)
-  passes_left {m = m} o h to =
-      let left : Moment = put (entries.Leave o) m in
-      record {
-        first = follows_kept.then (beginning before) m left h.first (follows_kept.entry (entries.Leave o) m left refl refl);
-        then = to.follows;
-      }
+  passes_left {m = m} o h to = grind (arith, h.first, to.follows, follows_kept.then, follows_kept.entry)
 
   -- the rest of a frame, which is then left with its outcome
   asks_caused : {k l j : ℕ} {c : Bool} {seat : Seat} {held : Held} {r : Answered} {m m' : Moment}

@@ -65,14 +65,10 @@ run_follows {s} {c} {a} l =
 
 pub request_end_follows : {s : Scene} {a : Standing} {t : List Entry} {b : Standing} → LegalRequestEnd s a t b
     → b ≡ closed (after a t)
-request_end_follows {s} {a} l =
-    l.leaves ∙ ap (λ (x : Standing). closed x) (folded a l.end (ends_follow l.ends))
-    ∙ ap (λ (t : List Entry). closed (after a t)) (sym l.pushed)
+request_end_follows {s} {a} l = grind (arith, l.leaves, l.end, l.ends, l.pushed, folded, ends_follow)
 
 pub end_follows : {s : Scene} {a : Standing} {t : List Entry} {b : Standing} → LegalEnd s a t b → b ≡ closed (after a t)
-end_follows {s} {a} l =
-    l.leaves ∙ ap (λ (x : Standing). closed x) (folded a l.end (then _ _ _ (ends_follow l.first) (ends_follow l.then)))
-    ∙ ap (λ (t : List Entry). closed (after a t)) (sym l.pushed)
+end_follows {s} {a} l = grind (arith, l.leaves, l.end, l.first, l.then, l.pushed, folded, then, ends_follow)
 
 -- ---- where nothing is live
 
@@ -102,19 +98,7 @@ empty_ends = record {
 
 settled_of : (s : Scene) (b : Standing) (m : Moment) (x : Standing) → x ≡ b → b.given ≡ m.standing.given → b.live ≡ m.standing.live
     → Settled s m → IsRising x.given x.live × IsFurnished s x.live
-settled_of s b m x e given live h =
-    subst (λ (y : Standing). IsRising y.given y.live × IsFurnished s y.live) (sym e)
-    (rw (given, live) (h.rises, h.furnished))
+settled_of s b m x e given live h = grind (arith, h.rises, h.furnished)
 
 pub commands_keep_furnished : CommandsKeepFurnished
-commands_keep_furnished = record {
-  run = λ s c a t o b l book sound r f.
-      settled_of s l.end.standing l.end b l.leaves refl refl
-      (runs_settled (sound_apart book s sound) l.runs (record { rises = r; furnished = f }));
-  request_end = λ s a t b l book sound r f.
-      settled_of s (closed l.end.standing) l.end b l.leaves refl refl
-      (context_settled l.ends (record { rises = r; furnished = f }));
-  end = λ s a t b l book sound r f.
-      settled_of s (closed l.end.standing) l.end b l.leaves refl refl
-      (context_settled l.then (context_settled l.first (record { rises = r; furnished = f })));
-}
+commands_keep_furnished = grind (arith, settled_of, runs_settled, sound_apart, context_settled)

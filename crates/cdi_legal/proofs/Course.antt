@@ -1,10 +1,10 @@
 -- The scheme of what holds along legal trees and ends: each case is gone through here, once.
 use Rattle.cdi_legal.proofs.Common.{arith, ◌≡◌, ◌<◌, ℕ, false, None, Some, refl, Outcome, Act, Call, Proceed, IsFull, Actor, InstanceId}
 use Rattle.cdi_legal.proofs.Common.{Owner, Nobody, Seat, Scene, Touches, Ends, End, Answer, Legal, Node, Moment, put, ask_more, Entry}
-use Rattle.cdi_legal.proofs.Common.{Create, ◌+◌, Bool, true, ap, sym, ◌∙◌, Scope, context_of, is_of, Target, Point, is_normal, Option}
-use Rattle.cdi_legal.proofs.Common.{Failure, Val, as_product, bean_at, Bean, Product, Permits, for_param, link, producer, target}
-use Rattle.cdi_legal.proofs.Common.{IsCalledAt, found, managed_at, product_at, Injection, Managed, create, disposer, Destroy, Enter, Gone}
-use Rattle.cdi_legal.proofs.Common.{Got, Leave, Proceeded, Skip, false≢true}
+use Rattle.cdi_legal.proofs.Common.{Create, ◌+◌, Bool, true, ap, ◌∙◌, Scope, context_of, is_of, Target, Point, is_normal, Option, Failure}
+use Rattle.cdi_legal.proofs.Common.{Val, as_product, bean_at, Bean, Product, Permits, for_param, link, producer, target, IsCalledAt, found}
+use Rattle.cdi_legal.proofs.Common.{managed_at, product_at, Injection, Managed, create, disposer, Destroy, Enter, Gone, Got, Leave}
+use Rattle.cdi_legal.proofs.Common.{Proceeded, Skip, false≢true}
 use Rattle.cdi_model.specs.declared.decl.Scope.TheVariants as scopes
 use Rattle.cdi_bodies.specs.declared.act.Act.TheVariants.{Fire}
 use Rattle.cdi_scene.specs.{Scene.invocable_at, Scene.observer_at, Scene.place_of, declared.scene.Observer.Observer}
@@ -179,30 +179,12 @@ outside-param None p = outside-nobody
 -- an instance of a dependent bean may begin for a point or for nobody
 pub own_begins : (s : Scene) (b : ℕ) (x : Bean) (o : Owner) (m : Moment) → bean_at s b ≡ Some x → is_normal x.scope ≡ false → IsOutside o
     → MayBegin s b o m
-own_begins s b x o m there own apart = record {
-  bean = x;
-  there = there;
-  none = λ normal. absurd (false≢true (sym own ∙ normal));
-  owner = λ normal. absurd (false≢true (sym own ∙ normal));
-  active = λ normal. absurd (false≢true (sym own ∙ normal));
-  outside = λ dependent. apart;
-}
+own_begins s b x o m there own apart = grind (arith, false≢true)
 
 -- one of a bean with a normal scope may where none is found, and the context is active
 pub shared_begins : (s : Scene) (b : ℕ) (x : Bean) (m : Moment) → bean_at s b ≡ Some x → (IsInactive x.scope m → ⊥)
     → found m.standing.live x.scope b ≡ None → MayBegin s b (context_of x.scope) m
-shared_begins s b x m there active none = record {
-  bean = x;
-  there = there;
-  none = λ normal. none;
-  owner = λ normal. refl;
-  active = λ normal. active;
-  outside = outside-of x.scope;
-}
-  where
-    outside-of : (scope : Scope) → is_normal scope ≡ false → IsOutside (context_of scope)
-    outside-of scopes.Dependent e = outside-nobody
-    outside-of other e = absurd (false≢true (sym e))
+shared_begins s b x m there active none = grind (arith, x.scope, outside-nobody, false≢true)
 
 pub product_there : (s : Scene) (b : ℕ) (x : Bean) (product : Product) → bean_at s b ≡ Some x → as_product x.form ≡ Some product
     → product_at s b ≡ Some product

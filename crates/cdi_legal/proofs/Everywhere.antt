@@ -1,6 +1,6 @@
 -- What each entry keeps holds at each point of a trace.
 use Rattle.cdi_legal.proofs.Common.{◌≡◌, ℕ, false, refl, IsFull, InstanceId, Owner, Scene, Moment, put, ask_more, is_create, Entry, Create}
-use Rattle.cdi_legal.proofs.Common.{List, [], ◌∷◌, ap, subst, sym, ◌∙◌, Standing, step, Throughout, after, ◌++◌, append_assoc}
+use Rattle.cdi_legal.proofs.Common.{List, [], ◌∷◌, subst, sym, Standing, step, Throughout, after, ◌++◌, append_assoc, arith}
 use Rattle.std.proofs.Common.{append-nil}
 use Rattle.cdi_legal.proofs.Along.{IsAlong, IsKept}
 use Rattle.cdi_legal.proofs.Course.{MayBegin}
@@ -46,36 +46,13 @@ module _ (P : Standing → Type 0) where
   none m holds = record { pushed = []; trace = sym (append-nil m.trace); standing = refl; points = tt; end = holds }
 
   pub then : (a b c : Moment) → Holds P a b → Holds P b c → Holds P a c
-  then a b c p q holds =
-      let first = p holds in
-      let second = q first.end in
-      record {
-        pushed = first.pushed ++ second.pushed;
-        trace = second.trace ∙ ap (λ l. l ++ second.pushed) first.trace ∙ append_assoc a.trace first.pushed second.pushed;
-        standing = second.standing ∙ ap (λ (s : Standing). after s second.pushed) first.standing
-            ∙ sym (after-append a.standing first.pushed second.pushed);
-        points = both P a.standing first.pushed second.pushed first.points
-            (subst (λ (s : Standing). HoldsAfterEach P s second.pushed) first.standing second.points);
-        end = second.end;
-      }
+  then a b c p q holds = grind (arith, a.trace, a.standing, append_assoc, after-append, both)
 
   one : (e : Entry) (m m' : Moment) → m' ≡ put e m → P (step m.standing e) → Holds P m m'
-  one e m m' h next holds = record {
-    pushed = e ∷ [];
-    trace = ap (λ (x : Moment). x.trace) h;
-    standing = ap (λ (x : Moment). x.standing) h;
-    points = (next, tt);
-    end = subst (λ (x : Moment). P x.standing) (sym h) next;
-  }
+  one e m m' h next holds = grind arith
 
   asking : (m m' : Moment) → m' ≡ ask_more m → Holds P m m'
-  asking m m' h holds = record {
-    pushed = [];
-    trace = ap (λ (x : Moment). x.trace) h ∙ sym (append-nil m.trace);
-    standing = ap (λ (x : Moment). x.standing) h;
-    points = tt;
-    end = subst (λ (x : Moment). P x.standing) (sym h) holds;
-  }
+  asking m m' h holds = grind (arith, m.trace, append-nil)
 
   module _ (calm : (e : Entry) (s : Standing) → is_create e ≡ false → P s → P (step s e)) where
     pub kept_everywhere : IsKept (Holds P)

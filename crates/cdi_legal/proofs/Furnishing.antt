@@ -241,9 +241,7 @@ furnished-without K s n live spare a =
 pub gone-furnished : (K : ℕ → Type 0) (s : Scene) (i : InstanceId) (m m' : Moment) → m' ≡ put (entries.Gone i) m
     → IsSpare K i.number m.standing.live → AreFurnished (Others K i.number) s m.standing.live
     → AreFurnished K s m'.standing.live
-gone-furnished K s i m m' h spare a =
-    subst (λ (x : Moment). AreFurnished K s x.standing.live) (sym h) (furnished-without K s i.number m.standing.live
-    spare a)
+gone-furnished K s i m m' h spare a = grind (arith, i.number, m.standing.live, furnished-without)
 
 pub fewer : (K : ℕ → Type 0) (s : Scene) (n : ℕ) (live : List Instance) → AreFurnished K s live
     → AreFurnished (Others K n) s live
@@ -280,9 +278,7 @@ Spares K (ends.held h k) live = AllSpare K h live
 Spares K other live = Unit {0}
 
 outside-part : (K : ℕ → Type 0) (n : ℕ) (o : Owner) → is_part_of n o ≡ true → (K n → ⊥) → Outside K o
-outside-part K n (Point m actor p) e never =
-    let same : m ≡ n = grind arith in
-    λ k. never (subst K same k)
+outside-part K n (Point m actor p) e never = grind arith
 outside-part K n Request e never = cc
 outside-part K n other e never = cc
 
@@ -294,23 +290,17 @@ outside-context K scope other e = cc
 alone-spare : (K : ℕ → Type 0) (live : List Instance) (i : Instance) (d : InstanceId) → IsAlone live i → i.id ≡ d
     → Outside K i.owner
     → IsSpare K d.number live
-alone-spare K live i d alone e out =
-    all-weaker _ _ live (λ z h same. subst (Outside K) (sym (h (same ∙ ap (λ (x : InstanceId). x.number) (sym e))))
-    out) alone
+alone-spare K live i d alone e out = grind (arith, all-weaker)
 
 dependent-spare : (K : ℕ → Type 0) (n : ℕ) (d : InstanceId) (s : Standing) → Rises s → last_of s.live n ≡ Some d
     → (K n → ⊥)
     → IsSpare K d.number s.live
-dependent-spare K n d s r e never =
-    let y = last_of_all (IsAlone s.live) (is_part_of n) s.live d (all-alone 0 s.given s.live r) e in
-    alone-spare K s.live y.0 d y.1 y.3 (outside-part K n y.0.owner y.2 never)
+dependent-spare K n d s r e never = grind (arith, s.live, s.given, last_of_all, all-alone, alone-spare, outside-part)
 
 shared-spare : (K : ℕ → Type 0) (scope : Scope) (d : InstanceId) (s : Standing) → Rises s
     → last_in s.live scope ≡ Some d
     → IsSpare K d.number s.live
-shared-spare K scope d s r e =
-    let y = last_of_all (IsAlone s.live) (is_of scope) s.live d (all-alone 0 s.given s.live r) e in
-    alone-spare K s.live y.0 d y.1 y.3 (outside-context K scope y.0.owner y.2)
+shared-spare K scope d s r e = grind (arith, s.live, s.given, last_of_all, all-alone, alone-spare, outside-context)
 
 -- what ends leaves such instances with their dependent objects
 pub ends_furnished : {s : Scene} (K : ℕ → Type 0) {e : End} {m m' : Moment} → Ends s e m m' → Rises m.standing

@@ -1,11 +1,11 @@
 -- Along a legal tree each live instance has a home: its context, or the instance that it was made for.
 use Rattle.cdi_legal.proofs.Common.{all-weaker, ◌≡◌, ◌<◌, ℕ, false, None, Some, refl, Outcome, Act, Actor, InstanceId, Owner, Nobody, Scene}
 use Rattle.cdi_legal.proofs.Common.{Touches, Ends, End, Answer, Legal, Node, Uses, Use, Runs, Command, Moment, put, ask_more, Entry, ◌+◌}
-use Rattle.cdi_legal.proofs.Common.{◌≤◌, inl, inr, Bool, true, List, [], ◌∷◌, length, arith, ap, subst, sym, ◌∙◌, AllByRecursion, Scope}
-use Rattle.cdi_legal.proofs.Common.{context_of, is_of, Standing, Instance, Request, Application, Point, is_normal, beginning, Option}
-use Rattle.cdi_legal.proofs.Common.{Failure, bean_at, Bean, Held, for_param, Refused, IsRising, LegalRun, LegalRequestEnd, LegalEnd, create}
-use Rattle.cdi_legal.proofs.Common.{◌++◌, ◌==◌, slice_get, if◌then◌else◌, is_part_of, IsOwnerOf, ◌⊎◌, IsSome, numbered, IsRising-more}
-use Rattle.cdi_legal.proofs.Common.{destroy, dependents, held, made_is, held_is, IsHome}
+use Rattle.cdi_legal.proofs.Common.{◌≤◌, inl, inr, true, List, [], ◌∷◌, length, arith, ap, subst, sym, ◌∙◌, AllByRecursion, Scope}
+use Rattle.cdi_legal.proofs.Common.{context_of, is_of, Standing, Instance, Point, is_normal, beginning, Option, Failure, bean_at, Bean}
+use Rattle.cdi_legal.proofs.Common.{Held, for_param, Refused, IsRising, LegalRun, LegalRequestEnd, LegalEnd, create, ◌++◌, ◌==◌, slice_get}
+use Rattle.cdi_legal.proofs.Common.{is_part_of, IsOwnerOf, ◌⊎◌, IsSome, numbered, IsRising-more, destroy, dependents, held, made_is}
+use Rattle.cdi_legal.proofs.Common.{held_is, IsHome}
 use Rattle.cdi_model.specs.declared.decl.Scope.TheVariants as scopes
 use Rattle.cdi_legal.proofs.Along.{touch_along}
 use Rattle.cdi_legal.proofs.Growing.{legal_grows}
@@ -41,10 +41,7 @@ asking : (L : Free) (m m' : Moment) → m' ≡ ask_more m → Path L m m'
 asking L m m' is h = subst (Rests L) (sym is) (record { rises = h.rises; home = h.home })
 
 touch : (L : Free) (n : ℕ) (actor : Actor) (x : Act) (m : Moment) (o : Outcome) (m' : Moment) → Touches n actor x m o m' → Path L m m'
-touch L n actor x m o m' t h = record {
-  rises = touch_along rises-kept n actor x m o m' t h.rises;
-  home = home-touch L n actor x m o m' t h.home;
-}
+touch L n actor x m o m' t h = grind (arith, h.rises, h.home, touch_along, rises-kept, home-touch)
 
 ends : (L : Free) {s : Scene} {e : End} {m m' : Moment} → Ends s e m m' → Path L m m'
 ends L p h = record { rises = ends-rise p h.rises; home = ends-home L p h.home }
@@ -63,17 +60,11 @@ stays-after {s} {k} {x} {a} {m} {m'} p b r =
 
 some-more : (n : ℕ) (live : List Instance) (x : Instance) → x.id.number ≡ n → IsSome (numbered (live ++ x ∷ []) n)
 some-more n [] x e = let is : (x.id.number == n) ≡ true = grind arith in rw is refl
-some-more n (y ∷ ys) x e = by (y.id.number == n) (some-more n ys x e)
-  where
-    by : (b : Bool) → IsSome (numbered (ys ++ x ∷ []) n) → IsSome (if b then Some y else numbered (ys ++ x ∷ []) n)
-    by true h = refl
-    by false h = h
+some-more n (y ∷ ys) x e = grind (arith, some-more n ys x e, y.id.number)
 
 begun-lives : (i : InstanceId) (o : Owner) (m m' : Moment) → i.number ≡ m.standing.given + 1 → m' ≡ put (entries.Create i o) m
     → IsSome (numbered m'.standing.live i.number)
-begun-lives i o m m' e is =
-    subst (λ (y : Moment). IsSome (numbered y.standing.live i.number)) (sym is)
-    (some-more i.number m.standing.live (new_one i o m) (sym e))
+begun-lives i o m m' e is = grind (arith, i.number, m.standing.live, some-more)
 
 -- it has a home, or needs none
 begin : (L : Free) (i : InstanceId) (o : Owner) (m m' : Moment) → i.number ≡ m.standing.given + 1 → m' ≡ put (entries.Create i o) m
@@ -188,9 +179,7 @@ own L n live k e = let same : k ≡ n = cc in inr (inr same)
 
 held-free : (L : Free) (h : Held) (f : Option Failure) (g : Held) (x : Option Failure) (j : ℕ) (i : InstanceId)
     → held_is h f ≡ held_is g x → slice_get g j ≡ Some (Some i) → AlsoHeld L h i.number Nobody
-held-free L h f g x j i e there =
-    let same : h ≡ g = cc in
-    inr (record { place = j; id = i; there = ap (λ (y : Held). slice_get y j) same ∙ there; is = refl })
+held-free L h f g x j i e there = grind arith
 
 -- ---- nodes
 
@@ -199,10 +188,7 @@ abbrev IsShared : Scene → ℕ → Type 0
 IsShared s b = (x : Bean) → bean_at s b ≡ Some x → is_normal x.scope ≡ true
 
 shared : (s : Scene) (b : ℕ) (d : Bean) → bean_at s b ≡ Some d → is_normal d.scope ≡ true → IsShared s b
-shared s b d there normal x here =
-    let both : Some d ≡ Some x = sym there ∙ here in
-    let is : d ≡ x = cc in
-    subst (λ (z : Bean). is_normal z.scope ≡ true) is normal
+shared s b d there normal x here = grind arith
 
 home-context : (live : List Instance) (scope : Scope) → is_normal scope ≡ true → IsHome live (context_of scope)
 home-context live scopes.Dependent e = cc
@@ -332,9 +318,7 @@ rooted-home : (live : List Instance) → IsRooted live → AreHome NoneFree live
 rooted-home live a = all-weaker (λ z. IsHome live z.owner) (λ z. IsHome live z.owner ⊎ ⊥) live (λ z h. inl h) a
 
 home-rooted : (live : List Instance) → AreHome NoneFree live → IsRooted live
-home-rooted live a =
-    all-weaker (λ z. IsHome live z.owner ⊎ ⊥) (λ z. IsHome live z.owner) live
-    (λ z h. elim h [ inl home ↦ home | inr never ↦ absurd never ]) a
+home-rooted live a = grind (arith, all-weaker)
 
 rests : (a : Standing) → IsRising a.given a.live → IsRooted a.live → Rests NoneFree (beginning a)
 rests a r h = record { rises = r; home = rooted-home a.live h }

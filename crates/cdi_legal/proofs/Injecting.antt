@@ -2,7 +2,7 @@
 use Rattle.cdi_legal.proofs.Common.{false_from_ne_true, ◌≡◌, ◌<◌, ℕ, false, None, Some, refl, Actor, InstanceId, Owner, Scene, Legal}
 use Rattle.cdi_legal.proofs.Common.{Moment, ◌+◌, ◌≤◌, inl, inr, true, List, [], ◌∷◌, length, arith, ap, subst, sym, ◌∙◌, AllByRecursion}
 use Rattle.cdi_legal.proofs.Common.{Target, Interceptor, Instance, Point, is_normal, Option, Val, Null, bean_at, Bean, Injection, create}
-use Rattle.cdi_legal.proofs.Common.{◌++◌, ◌==◌, map, slice_get, is_at, same_actor, IsOwnerOf, finish, ◌⊎◌, IsRising-more, made_is, nat_lt}
+use Rattle.cdi_legal.proofs.Common.{◌++◌, map, slice_get, is_at, same_actor, IsOwnerOf, finish, ◌⊎◌, IsRising-more, made_is, nat_lt}
 use Rattle.cdi_legal.proofs.Common.{slice_get_within, nat_tests, IsDependent}
 use Rattle.cdi_legal.proofs.Growing.{legal_grows}
 use Rattle.cdi_legal.proofs.Keeping.{Terms, Test, found_by, IsFree, Rises, Older, legal_older, older, begun}
@@ -30,12 +30,8 @@ found-finish f n product [] i e = cc
 found-finish f n product (x ∷ xs) i e = grind (arith, found-finish f n product xs i, same-finish, finish, found_by, map)
 
 finished-ready : (n : ℕ) (product : Option Val) (i : Instance) → i.id.number ≡ n → (finish n product i).is_ready ≡ true
-finished-ready n None i e =
-    let is : (i.id.number == n) ≡ true = grind arith in
-    rw is refl
-finished-ready n (Some v) i e =
-    let is : (i.id.number == n) ≡ true = grind arith in
-    rw is refl
+finished-ready n None i e = grind (arith, i.id.number)
+finished-ready n (Some v) i e = grind (arith, i.id.number)
 
 -- ---- one that is created
 
@@ -87,9 +83,7 @@ same-by : (a b : Actor) → same_actor a b ≡ true → a ≡ b
 same-by Target Target e = refl
 same-by Target (Interceptor q) e = cc
 same-by (Interceptor p) Target e = cc
-same-by (Interceptor p) (Interceptor q) e =
-    let is : p ≡ q = grind arith in
-    ap Interceptor is
+same-by (Interceptor p) (Interceptor q) e = grind arith
 
 actor-self : (a : Actor) → same_actor a a ≡ true
 actor-self Target = refl

@@ -38,23 +38,16 @@ ready-if : (b : Bool) (x y : Instance) → (x.is_ready ≡ true → y.is_ready �
 ready-if b x y h e = grind arith
 
 steady-keep : (n : ℕ) (v : Val) → IsSteadyChange (keep n v)
-steady-keep n v i =
-    let same = same-keep n v i in
-    (same.0, same.1, ready-if (i.id.number == n) i (record i { state = v }) (λ e. e))
+steady-keep n v i = grind (arith, i.id.number, same-keep, ready-if)
 
 steady-finish : (n : ℕ) (product : Option Val) → IsSteadyChange (finish n product)
-steady-finish n None i =
-    let same = same-finish n None i in
-    (same.0, same.1, ready-if (i.id.number == n) i (record i { is_ready = true }) (λ e. refl))
-steady-finish n (Some v) i =
-    let same = same-finish n (Some v) i in
-    (same.0, same.1, ready-if (i.id.number == n) i (record i { is_ready = true; state = v }) (λ e. refl))
+steady-finish n None i = grind (arith, i.id.number, same-finish, ready-if)
+steady-finish n (Some v) i = grind (arith, i.id.number, same-finish, ready-if)
 
 still_if : (b : Bool) (x y i : Instance) (r s : Option Instance) → y.id ≡ x.id → y.owner ≡ x.owner
     → (x.is_ready ≡ true → y.is_ready ≡ true) → (r ≡ Some i → IsStill i s)
     → (if b then Some x else r) ≡ Some i → IsStill i (if b then Some y else s)
-still_if true x y i r s d o ready rest e = grind (arith, ready)
-still_if false x y i r s d o ready rest e = rest e
+still_if t1 x y i r s d o ready rest e = grind arith
 
 still-map : (f : Test) (change : Instance → Instance) (live : List Instance) (i : Instance) → IsSteadyChange change
     → found_by f live ≡ Some i → IsStill i (found_by f (map change live))
@@ -64,17 +57,12 @@ still-map f change (x ∷ xs) i same e = grind (arith, still-map f change xs i s
 pub still-more : (f : Test) (live : List Instance) (x i : Instance) → found_by f live ≡ Some i
     → IsStill i (found_by f (live ++ x ∷ []))
 still-more f [] x i e = cc
-still-more f (y ∷ ys) x i e =
-    still_if (f y.id y.owner) y y i (found_by f ys) (found_by f (ys ++ x ∷ [])) refl refl (λ h. h) (still-more f ys x
-    i) e
+still-more f (y ∷ ys) x i e = grind (arith, still-more f ys x i, y.id, y.owner, still_if)
 
 -- where it is not the one that is found, the one behind it is
 not-first : (c : Bool) (y i : Instance) (r : Option Instance) (k : ℕ) → y.id.number ≡ k → (i.id.number ≡ k → ⊥)
     → (if c then Some y else r) ≡ Some i → r ≡ Some i
-not-first true y i r k is d e =
-    let q : y ≡ i = cc in
-    absurd (d (ap (λ (z : Instance). z.id.number) (sym q) ∙ is))
-not-first false y i r k is d e = e
+not-first t1 y i r k is d e = grind arith
 
 other_if : (f : Test) (k : ℕ) (b : Bool) (y i : Instance) (ys : List Instance) → (y.id.number == k) ≡ b
     → (i.id.number ≡ k → ⊥)
@@ -130,8 +118,7 @@ all-more P (y ∷ ys) x a p = (a.0, all-more P ys x a.1 p)
 
 all-if : {X : Type 0} (P : X → Type 0) (b : Bool) (x : X) (xs : List X) → P x → AllByRecursion P xs
     → AllByRecursion P (if b then x ∷ xs else xs)
-all-if P true x xs p a = (p, a)
-all-if P false x xs p a = a
+all-if P t1 x xs p a = grind arith
 
 pub all-without : (P : Instance → Type 0) (n : ℕ) (live : List Instance) → AllByRecursion P live
     → AllByRecursion P (without n live)
@@ -147,12 +134,8 @@ all-map P Q f (x ∷ xs) h a = (h x a.0, all-map P Q f xs h a.1)
 hold-finish : (t : Terms) (n : ℕ) (product : Option Val) (b : Bool) (i : Instance) → (i.id.number == n) ≡ b → t.low < n
     → t.holds i.id i.owner i.is_ready → t.holds (finish n product i).id (finish n product i).owner (finish n product
     i).is_ready
-hold-finish t n None true i e l h =
-    let is : i.id.number ≡ n = grind arith in
-    rw e (t.ready i.id i.owner i.is_ready (omega (arith, l, is)) h)
-hold-finish t n (Some v) true i e l h =
-    let is : i.id.number ≡ n = grind arith in
-    rw e (t.ready i.id i.owner i.is_ready (omega (arith, l, is)) h)
+hold-finish t n None true i e l h = grind (arith, i.id.number, t.ready, i.id, i.owner, i.is_ready)
+hold-finish t n (Some v) true i e l h = grind (arith, i.id.number, t.ready, i.id, i.owner, i.is_ready)
 hold-finish t n None false i e l h = rw e h
 hold-finish t n (Some v) false i e l h = rw e h
 

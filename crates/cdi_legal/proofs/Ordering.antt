@@ -104,11 +104,7 @@ module _ (s : Scene) where
       )
 
   pub asking : (m m' : Moment) → m' ≡ ask_more m → IsGood s m → IsGood s m'
-  asking m m' is good = record {
-    limits = good-trace m.trace m'.trace (trace_of (ask_more m) m' is) (AtEachPoint (λ earlier. IsInLimits (opened earlier))) good.limits;
-    places = good-trace m.trace m'.trace (trace_of (ask_more m) m' is)
-        (AtEachEntry (λ earlier entry. IsInPlace s (IsCalledAt s) (opened earlier) entry)) good.places;
-  }
+  asking m m' is good = grind (arith, m.trace, m'.trace, good.limits, good.places, limits, good-trace, trace_of)
 
   pub asking-opened : (m m' : Moment) → m' ≡ ask_more m → opened m'.trace ≡ opened m.trace
   asking-opened m m' is = ap opened (trace_of (ask_more m) m' is)
@@ -137,10 +133,7 @@ module _ (s : Scene) where
       let first = p good room in both a b c first (q first.good (subst (HasRoom k) (sym first.same) room))
   then_over course.ending a b c p q = λ good within.
       let first = p good within in both a b c first (q first.good (subst IsInLimits (sym first.same) within))
-  then_over course.inside a b c p q = λ good within ending.
-      let first = p good within ending in
-      both a b c first (q first.good (subst IsInLimits (sym first.same) within)
-      (subst (λ (xs : List Opening). is_ending xs ≡ true) (sym first.same) ending))
+  then_over course.inside a b c p q = grind (arith, both)
 
   -- ---- destruction
 
@@ -196,11 +189,7 @@ module _ (s : Scene) where
   -- what is open after an act
   counted : (xs : List Opening) (t : Turn) (seat : Seat) (within : Bool) (j p : ℕ) (older : List Opening) → t ≡ acting
       → xs ≡ frame seat within j p ∷ older → turned xs t ≡ frame seat within (j + 1) p ∷ older
-  counted xs t seat within j p older is now =
-      let same : p + 0 ≡ p = omega arith in
-      subst (λ (u : Turn). turned xs u ≡ frame seat within (j + 1) p ∷ older) (sym is)
-      (subst (λ (ys : List Opening). turned ys acting ≡ frame seat within (j + 1) p ∷ older) (sym now)
-      (ap (λ (n : ℕ). frame seat within (j + 1) n ∷ older) same))
+  counted xs t seat within j p older is now = grind arith
 
   -- one more act of a frame outside destruction leaves room
   pub room-more : (k : ℕ) (seat : Seat) (j p q : ℕ) (older : List Opening) → j < 64 → HasRoom k (frame seat false j p ∷ older)
@@ -419,11 +408,7 @@ runs_good {s} (Runs.used_own b x _ _ _ m _ _ _ there own p u e) good =
 runs_good (Runs.fired _ _ _ _ _ p) good = on good (legal_ordered p tt)
 
 ordered : (s : Scene) (trace : List Entry) (m : Moment) → trace ≡ m.trace → AllGood s m → IsOrdered s trace
-ordered s trace m is good = record {
-  limits = subst (AtEachPoint (λ earlier. IsInLimits (opened earlier))) (sym is) good.0.limits;
-  places = subst (AtEachEntry (λ earlier entry. IsInPlace s (IsCalledAt s) (opened earlier) entry)) (sym is) good.0.places;
-  closed = ap opened is ∙ good.1;
-}
+ordered s trace m is good = grind (arith, good.0.limits, good.0.places, good.1, limits)
 
 pub commands_are_ordered : CommandsAreOrdered
 commands_are_ordered = record {

@@ -63,25 +63,12 @@ abbrev pub AlsoParts : Free → ℕ → Free
 AlsoParts L k n o = L n o ⊎ (is_part_of k o ≡ true)
 
 pub wider : (L M : Free) (live : List Instance) → ((n : ℕ) (o : Owner) → L n o → M n o) → AreHome L live → AreHome M live
-wider L M live more a =
-    all-weaker (λ z. IsHome live z.owner ⊎ L z.id.number z.owner) (λ z. IsHome live z.owner ⊎ M z.id.number z.owner) live
-    (λ z h. elim h [ inl home ↦ inl home | inr free ↦ inr (more z.id.number z.owner free) ]) a
+wider L M live more a = grind (arith, all-weaker)
 
 -- where none of the further ones is live, those that were needed none before are all
 pub narrower : (L M : Free) (live : List Instance) → AllByRecursion (λ z. M z.id.number z.owner → ⊥) live
     → AreHome (λ n o. L n o ⊎ M n o) live → AreHome L live
-narrower L M live none a =
-    all-weaker (λ z. Before z × (M z.id.number z.owner → ⊥)) (λ z. IsHome live z.owner ⊎ L z.id.number z.owner) live
-    (λ z h. by z h.0 h.1)
-    (all-both Before (λ z. M z.id.number z.owner → ⊥) live a none)
-  where
-    Before : Instance → Type 0
-    Before z = IsHome live z.owner ⊎ (L z.id.number z.owner ⊎ M z.id.number z.owner)
-
-    by : (z : Instance) → Before z → (M z.id.number z.owner → ⊥) → IsHome live z.owner ⊎ L z.id.number z.owner
-    by z (inl home) never = inl home
-    by z (inr (inl free)) never = inr free
-    by z (inr (inr more)) never = absurd (never more)
+narrower L M live none a = grind (arith, all-weaker, all-both)
 
 -- ---- entries
 
@@ -158,22 +145,10 @@ home-without k live other e h = tt
 
 -- what was made for it needs no home any more
 pub home-lost : (L : Free) (k : ℕ) (live : List Instance) → AreHome L live → AreHome (AlsoParts L k) (without k live)
-home-lost L k live a =
-    all-without (λ z. IsHome (without k live) z.owner ⊎ AlsoParts L k z.id.number z.owner) k live
-    (all-weaker (λ z. IsHome live z.owner ⊎ L z.id.number z.owner)
-    (λ z. IsHome (without k live) z.owner ⊎ AlsoParts L k z.id.number z.owner) live
-    (λ z h. by z (is_part_of k z.owner) refl h) a)
-  where
-    by : (z : Instance) (b : Bool) → is_part_of k z.owner ≡ b → IsHome live z.owner ⊎ L z.id.number z.owner
-        → IsHome (without k live) z.owner ⊎ AlsoParts L k z.id.number z.owner
-    by z true e h = inr (inr e)
-    by z false e (inl home) = inl (home-without k live z.owner e home)
-    by z false e (inr free) = inr (inl free)
+home-lost L k live a = grind (arith, all-without, all-weaker, home-without)
 
 pub no-parts : (k : ℕ) (live : List Instance) → NoParts k live → AllByRecursion (λ z. is_part_of k z.owner ≡ true → ⊥) live
-no-parts k live a =
-    all-weaker (λ z. is_part_of k z.owner ≡ false) (λ z. is_part_of k z.owner ≡ true → ⊥) live
-    (λ z e h. let no : true ≡ false = sym h ∙ e in cc) a
+no-parts k live a = grind (arith, all-weaker)
 
 -- where nothing was made for it, all others keep theirs
 home-gone : (L : Free) (k : ℕ) (live : List Instance) → NoParts k live → AreHome L live → AreHome L (without k live)

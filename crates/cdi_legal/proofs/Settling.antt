@@ -1,12 +1,12 @@
 -- Along a legal tree each ready instance has its dependent objects.
 use Rattle.cdi_legal.proofs.Common.{false_from_ne_true, all-weaker, ◌≡◌, ◌<◌, ℕ, false, None, Some, refl, Outcome, Act, Actor, InstanceId}
 use Rattle.cdi_legal.proofs.Common.{Owner, Nobody, Scene, Touches, Ends, Answer, Legal, Node, Uses, Use, Runs, Command, Moment, put}
-use Rattle.cdi_legal.proofs.Common.{ask_more, Entry, ◌+◌, ◌≤◌, inl, inr, Bool, true, List, [], ◌∷◌, length, arith, ap, subst, sym, ◌∙◌}
+use Rattle.cdi_legal.proofs.Common.{ask_more, Entry, ◌+◌, ◌≤◌, inl, inr, Bool, true, List, [], ◌∷◌, arith, ap, subst, sym, ◌∙◌}
 use Rattle.cdi_legal.proofs.Common.{AllByRecursion, Scope, is_of, Instance, Point, Option, Failure, Value, Val, Null, as_product, bean_at}
 use Rattle.cdi_legal.proofs.Common.{Bean, Product, Held, outcome_is, context, IsFurnished, managed_at, Managed, create, ◌++◌, Bodies}
 use Rattle.cdi_legal.proofs.Common.{IsSound, IsSoundForm, Form, ◌==◌, ◌&&◌, map, slice_get, is_at, IsOwnerOf, finish, IsRising-finished}
-use Rattle.cdi_legal.proofs.Common.{HasDependents, ◌⊎◌, IsRising-more, destroy, dependents, held, made_is, held_is, nat_lt}
-use Rattle.cdi_legal.proofs.Common.{slice_get_within, nat_tests}
+use Rattle.cdi_legal.proofs.Common.{HasDependents, ◌⊎◌, IsRising-more, destroy, dependents, held, made_is, held_is, slice_get_within}
+use Rattle.cdi_legal.proofs.Common.{nat_tests}
 use Rattle.std.proofs.lemmas.Bool.{and_parts}
 use Rattle.cdi_scene.specs.Scene.{as_managed}
 use Rattle.cdi_scene.specs.declared.scene.Form.TheVariants as forms
@@ -114,11 +114,7 @@ old-part {s} {k} {x} {a} {m} {m'} p b h =
     had e) h.furnished))
 
 either : (n g : ℕ) → (n ≤ g) ⊎ (g < n)
-either n g = by (nat_lt g n) refl
-  where
-    by : (b : Bool) → nat_lt g n ≡ b → (n ≤ g) ⊎ (g < n)
-    by true e = inr (grind (arith, nat_tests))
-    by false e = inl (grind (arith, nat_tests))
+either n g = grind (arith, nat_tests)
 
 join : (s : Scene) (g : ℕ) (live : List Instance) → AreFurnished (Up g) s live → AreFurnished (Above g) s live
     → IsFurnished s live
@@ -142,26 +138,17 @@ abbrev Young : Scene → Moment → Moment → Type 0
 Young s m m' = Settled s m → AreFurnished (Above m.standing.given) s m'.standing.live
 
 only : (s : Scene) (K : ℕ → Type 0) (live : List Instance) → IsFurnished s live → AreFurnished K s live
-only s K live a =
-    all-weaker (λ z. z.is_ready ≡ true → HasDependents s live z.id) (λ z. K z.id.number → z.is_ready ≡ true
-    → HasDependents s live z.id)
-    live (λ z h k e. h e) a
+only s K live a = grind (arith, all-weaker)
 
 all-of : (s : Scene) (live : List Instance) → AreFurnished (λ n. Unit {0}) s live → IsFurnished s live
-all-of s live a =
-    all-weaker (λ z. Unit {0} → z.is_ready ≡ true → HasDependents s live z.id) (λ z. z.is_ready ≡ true
-    → HasDependents s live z.id)
-    live (λ z h e. h tt e) a
+all-of s live a = grind (arith, all-weaker)
 
 young : {s : Scene} {m m' : Moment} → Path s m m' → Young s m m'
 young {s} {m} {m'} p h = only s (Above m.standing.given) m'.standing.live (p h).furnished
 
 wrap : {s : Scene} {k : ℕ} {x : Node} {a : Answer} {m m' : Moment} → Legal s k x m a m' → Begins x m
     → Young s m m' → Path s m m'
-wrap {s} {k} {x} {a} {m} {m'} p b y h = record {
-  rises = rises-after p b h.rises;
-  furnished = join s m.standing.given m'.standing.live (old-part p b h) (y h);
-}
+wrap {s} {k} {x} {a} {m} {m'} p b y h = grind (arith, h.rises, m.standing.given, m'.standing.live, rises-after, join, old-part)
 
 none : {s : Scene} (m : Moment) → Path s m m
 none m h = h
@@ -181,11 +168,8 @@ asking {s} m m' is h = subst (Settled s) (sym is) (record { rises = h.rises; fur
 
 touch : {s : Scene} (n : ℕ) (actor : Actor) (x : Act) (m : Moment) (o : Outcome) (m' : Moment)
     → Touches n actor x m o m' → Path s m m'
-touch {s} n actor x m o m' t h = record {
-  rises = touch_along rises-kept n actor x m o m' t h.rises;
-  furnished = all-of s m'.standing.live
-      (touch-furnished (λ k. Unit {0}) s n actor x m o m' t (only s (λ k. Unit {0}) m.standing.live h.furnished));
-}
+touch {s} n actor x m o m' t h =
+    grind (arith, h.rises, m'.standing.live, m.standing.live, h.furnished, touch_along, rises-kept, all-of, touch-furnished, only)
 
 -- ---- a new instance
 
@@ -193,16 +177,7 @@ touch {s} n actor x m o m' t h = record {
 fresh : (m : Moment) (n : ℕ) (actor : Actor) (p : ℕ) → Rises m.standing → n ≡ m.standing.given
     → AllByRecursion (λ z. is_at n actor p z.owner ≡ false) m.standing.live
 fresh m n actor p r e =
-    all-weaker (λ z. IsOwnerOf z.id.number z.owner × (z.id.number ≤ m.standing.given)) (λ z. is_at n actor p z.owner ≡
-    false) m.standing.live
-    (λ z h. false_from_ne_true (is_at n actor p z.owner) (by z z.owner h.0 h.1))
-    (all-both (λ z. IsOwnerOf z.id.number z.owner) (λ z. z.id.number ≤ m.standing.given) m.standing.live
-    (all-owned 0 m.standing.given m.standing.live r) (all-given 0 m.standing.given m.standing.live r))
-  where
-    by : (z : Instance) (o : Owner) → IsOwnerOf z.id.number o → z.id.number ≤ m.standing.given
-        → is_at n actor p o ≡ true → ⊥
-    by z (Point k who q) owned l is = absurd (omega (arith, owned, l, e, (at-same n actor p k who q is).0))
-    by z other owned l is = cc
+    grind (arith, m.standing.given, m.standing.live, all-weaker, false_from_ne_true, all-both, all-owned, all-given, at-same)
 
 -- after the injection
 pub has-injected : {s : Scene} {k : ℕ} {i : InstanceId} {b : Managed} {m m' : Moment} → IsApart s
@@ -220,15 +195,7 @@ has-injected {s} {k} {i} {b} {m} {m'} apart there p r e = λ managed j point at_
 no-managed : (s : Scene) (b : ℕ) (x : Bean) (p : Product) (managed : Managed) → bean_at s b ≡ Some x
     → as_product x.form ≡ Some p
     → managed_at s b ≡ Some managed → ⊥
-no-managed s b x p managed there made is = by x.form made (sym (ap (λ o. elim o [
-  | Some y ↦ as_managed y.form
-  | None ↦
-      None
-]) there) ∙ is)
-  where
-    by : (f : Form) → as_product f ≡ Some p → as_managed f ≡ Some managed → ⊥
-    by (forms.Managed one) e h = cc
-    by (forms.Product one) e h = cc
+no-managed s b x p managed there made is = grind (arith, x.form)
 
 -- what is set up has its dependent objects
 pub set_up : {s : Scene} {k : ℕ} {i : InstanceId} {a : Answer} {m m' : Moment} → IsApart s
@@ -284,12 +251,7 @@ IsOnly i live = AllByRecursion (λ z. z.id.number ≡ i.number → z.id ≡ i) l
 begun-only : (i : InstanceId) (o : Owner) (m m' : Moment) → i.number ≡ m.standing.given + 1
     → m' ≡ put (entries.Create i o) m
     → Rises m.standing → IsOnly i m'.standing.live
-begun-only i o m m' e is r =
-    subst (λ (y : Moment). IsOnly i y.standing.live) (sym is)
-    (all-more (λ z. z.id.number ≡ i.number → z.id ≡ i) m.standing.live (new_one i o m)
-    (all-weaker (λ z. z.id.number ≤ m.standing.given) (λ z. z.id.number ≡ i.number → z.id ≡ i) m.standing.live
-    (λ z l same. absurd (omega (arith, l, same, e))) (all-given 0 m.standing.given m.standing.live r))
-    (λ same. ap (λ n. record { bean = i.bean; number = n }) (sym e)))
+begun-only i o m m' e is r = grind (arith, i.number, m.standing.live, m.standing.given, i.bean, all-more, all-weaker, all-given)
 
 abbrev only_terms : (i : InstanceId) (low : ℕ) → i.number ≤ low → Terms
 only_terms i low l = record {
@@ -344,13 +306,7 @@ ready {s} i product m m' is alone had h = subst (Settled s) (sym is) (record {
 
 -- what is not younger is spare for those that are
 spare : (g n : ℕ) (m : Moment) → Rises m.standing → n ≤ g + 1 → IsSpare (Above g) n m.standing.live
-spare g n m r l =
-    all-weaker (λ z. IsOwnerOf z.id.number z.owner) (λ z. z.id.number ≡ n → Outside (Above g) z.owner) m.standing.live
-    (λ z owned same. by z z.owner owned same) (all-owned 0 m.standing.given m.standing.live r)
-  where
-    by : (z : Instance) (o : Owner) → IsOwnerOf z.id.number o → z.id.number ≡ n → Outside (Above g) o
-    by z (Point k who q) owned same = λ above. absurd (omega (arith, above, owned, same, l))
-    by z other owned same = tt
+spare g n m r l = grind (arith, m.standing.live, m.standing.given, all-weaker, all-owned)
 
 -- where one is destroyed that was made within, the younger ones keep their dependent objects
 ended : {s : Scene} {i : InstanceId} {m m' : Moment} (g : ℕ) → Ends s (destroy i) m m' → i.number ≡ g + 1 → Settled s m
@@ -444,9 +400,7 @@ created-spare {s} {k} {b} {n} {m} {m'} K p r =
 
 made-low : {s : Scene} {k b n : ℕ} {o : Owner} {m m' : Moment} → Legal s k (create b o) m (made_is (Obtained n)) m'
     → n ≤ m'.standing.given
-made-low (Legal.made k j b x o i v m m₁ m₂ m' _ _ _ _ p4 p5 p6 p7) =
-    let more = ap (λ (y : Moment). y.standing.given) p7 in
-    omega (arith, begun i o m m₁ p4 p5, legal_grows p6, more)
+made-low (Legal.made k j b x o i v m m₁ m₂ m' _ _ _ _ p4 p5 p6 p7) = grind (arith, begun, legal_grows)
 
 spare-proxy : (g : ℕ) (h : Held) (m : Moment) → AreSpare g h m → AreSpare g (h ++ None ∷ []) m
 spare-proxy g [] m a = tt
@@ -503,14 +457,9 @@ legal_young apart (Legal.produced_on_own _ n i _ _ _ _ m m₁ m₂ m' _ _ _ _ _ 
 legal_young apart (Legal.attended_own _ _ _ _ _ _ _ m m₁ m₂ m' _ _ _ _ p4 p5 p6) a = λ h.
     ended m.standing.given p6 (created p4) (wrap p5 tt (legal_young apart p5 tt) (wrap p4 tt (legal_young apart p4
     tt) h))
-legal_young apart (Legal.not_supplied _ _ _ _ had _ _ m m₁ m' p0 p1) a = λ h.
-    held-ended m.standing.given had (length had) p1 (supplied-spare m.standing.given p0 h.rises tt)
-    (wrap p0 tt (legal_young apart p0 tt) h)
-legal_young apart (Legal.attended _ _ _ _ had _ _ _ m m₁ m₂ m' p0 p1 p2) a = λ h.
-    let settled = wrap p0 tt (legal_young apart p0 tt) h in
-    held-ended m.standing.given had (length had) p2
-    (spare-after m.standing.given had p1 tt settled.rises (supplied-spare m.standing.given p0 h.rises tt))
-    (wrap p1 tt (legal_young apart p1 tt) settled)
+legal_young apart (Legal.not_supplied _ _ _ _ had _ _ m m₁ m' p0 p1) a = grind (arith, m.standing.given, held-ended, supplied-spare, wrap)
+legal_young apart (Legal.attended _ _ _ _ had _ _ _ m m₁ m₂ m' p0 p1 p2) a =
+    grind (arith, m.standing.given, wrap, held-ended, spare-after, supplied-spare)
 legal_young apart (Legal.inactive _ _ _ m _ _) a =
     young (none m)
 legal_young apart (Legal.present _ _ _ _ m _ _ _ _) a =
@@ -702,15 +651,8 @@ runs_settled apart (Runs.fired _ _ _ _ _ p0) h = legal_settled apart p0 tt h
 form_apart : (book : Bodies) (s : Scene) (b : ℕ) (f : Form) (managed : Managed) → IsSoundForm book s b f
     → as_managed f ≡ Some managed
     → AreApart managed.injections
-form_apart book s b (forms.Managed one) managed sound e =
-    let is : one ≡ managed = cc in
-    subst (λ (z : Managed). AreApart z.injections) is sound.apart
+form_apart book s b (forms.Managed one) managed sound e = grind (arith, sound.apart)
 form_apart book s b (forms.Product one) managed sound e = cc
 
 pub sound_apart : (book : Bodies) (s : Scene) → IsSound book s → IsApart s
-sound_apart book s sound b managed e = by (bean_at s b) refl e
-  where
-    by : (o : Option Bean) → bean_at s b ≡ o → (elim o [ Some y ↦ as_managed y.form | None ↦ None ]) ≡ Some managed
-        → AreApart managed.injections
-    by None there is = cc
-    by (Some bean) there is = form_apart book s b bean.form managed (sound.beans b bean there) is
+sound_apart book s sound b managed e = grind (arith, managed.injections, sound.beans, form_apart)
