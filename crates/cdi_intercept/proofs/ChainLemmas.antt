@@ -1,6 +1,6 @@
 -- Which interceptors are in order, and where they stand.
-use Rattle.std.proofs.Common.{◌≡◌, ℕ, zero, suc, Bool, true, false, not, cond, List, [], ◌∷◌, ◌++◌, map, filter, Some, option_map, refl}
-use Rattle.std.proofs.Common.{sym, ap, subst, ◌∙◌, inl, inr}
+use Rattle.std.proofs.Common.{arith, ◌≡◌, ℕ, zero, suc, Bool, true, false, not, cond, List, [], ◌∷◌, ◌++◌, map, filter, Some, option_map}
+use Rattle.std.proofs.Common.{refl, ap, ◌∙◌, inl, inr}
 use Rattle.std.specs.List.{AllByRecursion, slice_get}
 use Rattle.std.proofs.lemmas.{Bool.cases_Bool, Option.none-some, Option.same_Some, Option.slice_get-map, Map.Keys.any_passes_from_place}
 use Rattle.base_lists.proofs.{Each.all-at, Places.at-front, Places.at-back, Sorting.all-sorted}
@@ -9,7 +9,7 @@ use Rattle.cdi_model.specs.declared.{decl.ObserverDecl.ObserverDecl, decl.Produc
 use Rattle.cdi_model.specs.declared.quals.Qual.{Qual}
 use Rattle.cdi_model.specs.declared.decl.Decl.TheVariants as decls
 use Rattle.cdi_model.specs.declared.place.BeanPlace.TheVariants as places
-use Rattle.cdi_intercept.specs.Chains.{in_order, interceptors, is_before, is_enabled, surrounds, surrounds_one}
+use Rattle.cdi_intercept.specs.Chains.{in_order, interceptors, is_enabled, surrounds, surrounds_one}
 use Rattle.cdi_intercept.specs.Sets.{methods_of, producers_of, observers_of, places_of, set_by, sets_of}
 
 -- ---- each of those in order is declared, and enabled
@@ -30,20 +30,12 @@ all-declared (other ∷ ds) = all-later other ds (interceptors ds) (all-declared
 all-kept : {X : Type 0} (P : X → Type 0) (p : X → Bool) (xs : List X) → AllByRecursion P xs
     → AllByRecursion (λ x. P x × (p x ≡ true)) (filter p xs)
 all-kept P p [] all = tt
-all-kept {X = X} P p (x ∷ xs) all =
-    let kept : List X → Type 0 = AllByRecursion (λ x. P x × (p x ≡ true)) in
-    elim (cases_Bool (p x)) [
-      | inl e ↦ subst (λ (b : Bool). kept (cond b (x ∷ filter p xs) (filter p xs))) (sym e) ((all.0, e), all-kept P p xs all.1)
-      | inr e ↦ subst (λ (b : Bool). kept (cond b (x ∷ filter p xs) (filter p xs))) (sym e) (all-kept P p xs all.1)
-    ]
+all-kept {X = X} P p (x ∷ xs) all = grind (arith, all-kept P p xs all.1, all.0, all.1)
 
 pub in_order-declared : (ds : List Decl) (q : ℕ) (i : InterceptorDecl) → slice_get (in_order ds) q ≡ Some i
     → IsDeclared ds i × (is_enabled i ≡ true)
 unfolding in_order
-in_order-declared ds q i at =
-    let found : InterceptorDecl → Type 0 = λ j. IsDeclared ds j × (is_enabled j ≡ true) in
-    let enabled = filter is_enabled (interceptors ds) in
-    all-at found _ q i (all-sorted is_before found enabled (all-kept (IsDeclared ds) is_enabled (interceptors ds) (all-declared ds))) at
+in_order-declared ds q i at = grind (arith, all-at, all-sorted, all-kept, all-declared)
 
 -- ---- one that stands around a place of a bean stands around some place of it
 
@@ -54,9 +46,7 @@ IsPlace bean place = (k : ℕ) × (slice_get (places_of bean) k ≡ Some place)
 in-filter : {X : Type 0} (p : X → Bool) (xs : List X) (k : ℕ) (x : X) → slice_get xs k ≡ Some x → p x ≡ true
     → (j : ℕ) × (slice_get (filter p xs) j ≡ Some x)
 in-filter p [] k x at is = absurd (none-some x at)
-in-filter {X = X} p (v ∷ xs) zero x at is =
-    let here : v ≡ x = same_Some v x at in
-    (0, ap (λ (b : Bool). slice_get (cond b (v ∷ filter p xs) (filter p xs)) 0) (ap p here ∙ is) ∙ ap Some here)
+in-filter {X = X} p (v ∷ xs) zero x at is = grind (arith, same_Some)
 in-filter {X = X} p (v ∷ xs) (suc k) x at is =
     let rest = in-filter p xs k x at is in
     elim (cases_Bool (p v)) [

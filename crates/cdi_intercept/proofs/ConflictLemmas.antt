@@ -1,6 +1,6 @@
 -- Two of some bindings differ just where one is not like the one before it of its type.
-use Rattle.std.proofs.Common.{◌≡◌, ◌<◌, ◌+◌, ℕ, Bool, true, false, not, ◌&&◌, ◌||◌, cond, List, ◌∷◌, length, drop, get_or, Option, Some}
-use Rattle.std.proofs.Common.{None, option_map, refl, sym, ap, ◌∙◌}
+use Rattle.std.proofs.Common.{arith, ◌≡◌, ◌<◌, ◌+◌, ℕ, Bool, true, false, not, ◌&&◌, ◌||◌, cond, List, ◌∷◌, length, drop, get_or, Option}
+use Rattle.std.proofs.Common.{Some, None, refl, sym, ap, ◌∙◌}
 use Rattle.std.proofs.{Math.Bool.or-false, lemmas.List.at_drop_more, lemmas.Option.slice_get-get_or, lemmas.Option.slice_get-map}
 use Rattle.std.specs.{Borrow.Bor, List.list_any, Bool.Decides, Str.bytes_eq}
 use Rattle.std.proofs.lemmas.Bool.Decides.{same_from_decides, Decides-like}
@@ -51,11 +51,7 @@ alike-itself : (ds : List Decl) (u : Qual) → alike ds u u ≡ true
 alike-itself ds u = (alike-decides ds u u).1 (record { same_name = refl; same_given = refl; same_values = λ name all. refl })
 
 alike-turned : (ds : List Decl) (u v : Qual) → alike ds u v ≡ alike ds v u
-alike-turned ds u v = same_from_decides (alike ds u v) (alike ds v u) (alike-decides ds u v)
-    (Decides-like (alike ds v u)
-    (λ h. turned (members ds v) (members ds u) v u (same-members ds v u h.same_name) h)
-    (λ h. turned (members ds u) (members ds v) u v (same-members ds u v h.same_name) h)
-    (alike-decides ds v u))
+alike-turned ds u v = grind (arith, same_from_decides, alike-decides, turned, same-members)
 
 -- what is like a use is like each that is like it
 alike-same : (ds : List Decl) (u v w : Qual) → alike ds u v ≡ true → alike ds u w ≡ alike ds v w
@@ -80,9 +76,7 @@ opposed-turned ds u v = ap (λ b. b && not (alike ds u v)) (bytes_eq-turned u.na
 -- ---- by the first and the others
 
 or-again : (a b c : Bool) → a ≡ false → ((a || b) || (b || c)) ≡ (b || c)
-or-again true b c e = absurd cc
-or-again false true c e = refl
-or-again false false c e = refl
+or-again t1 b c e = grind arith
 
 pub conflict-cons : (ds : List Decl) (u : Qual) (us : List Qual)
     → has_conflict ds (u ∷ us) ≡ (list_any (are_opposed ds u) us || has_conflict ds us)
@@ -108,15 +102,7 @@ differ-first ds us before none =
 kept : (ds : List Decl) (was : Option Qual) (u v : Qual) → differs ds was u ≡ false
     → (differs ds was v || not (alike ds u v)) ≡ not (alike ds u v)
 kept ds None u v same = refl
-kept ds (Some before) u v same = by (alike ds before u) refl same
-  where
-    twice : (b : Bool) → (b || b) ≡ b
-    twice true = refl
-    twice false = refl
-
-    by : (b : Bool) → alike ds before u ≡ b → not b ≡ false → (not (alike ds before v) || not (alike ds u v)) ≡ not (alike ds u v)
-    by true is e = ap (λ b. not b || not (alike ds u v)) (alike-same ds before u v is) ∙ twice (not (alike ds u v))
-    by false is e = absurd cc
+kept ds (Some before) u v same = grind (arith, alike-same)
 
 -- one more was gone through
 differ-next : (ds : List Decl) (before after : List ℕ → Option Qual) (u : Qual) (us : List Qual)
@@ -164,6 +150,4 @@ differ-more ds uses i u before after all lt is put same so_far =
 -- a position is noted
 pub put-at : (uses : List (Bor Qual)) (i : ℕ) (u : Bor Qual) (here : Bool) (old : Option ℕ) → i < length uses → u ≡ get_or uses i u
     → use_at (uses_in uses) (cond here (Some i) old) ≡ cond here (Some u.now) (use_at (uses_in uses) old)
-put-at uses i u true old lt is = slice_get-map (λ (v : Bor Qual). v.now) uses i
-    ∙ ap (option_map (λ (v : Bor Qual). v.now)) (slice_get-get_or uses i u lt ∙ ap Some (sym is))
-put-at uses i u false old lt is = refl
+put-at uses i u t1 old lt is = grind (arith, slice_get-map, slice_get-get_or)

@@ -1,24 +1,24 @@
 -- A chain rests on the bindings at its place, the declarations of their types, and the interceptors that share one of these.
-use Rattle.std.proofs.Common.{◌≡◌, ℕ, Bool, true, false, cond, not, ◌&&◌, ◌||◌, List, [], ◌∷◌, ◌++◌, length, map, filter, nat_eq, Option}
-use Rattle.std.proofs.Common.{Some, None, is_some, option_map, unwrap_or, Result, Ok, Err, refl, sym, ap, ◌∙◌, inl, inr}
+use Rattle.std.proofs.Common.{arith, ◌≡◌, ℕ, Bool, true, false, not, ◌&&◌, ◌||◌, List, [], ◌∷◌, ◌++◌, length, map, filter, nat_eq, Option}
+use Rattle.std.proofs.Common.{Some, None, is_some, option_map, unwrap_or, Ok, refl, sym, ap, ◌∙◌, inl, inr}
 use Rattle.std.proofs.lemmas.Bool.{false≢true, or_cases, or_left, or_right, and_parts}
 use Rattle.std.specs.{List.list_all, List.list_any, Map.keys_of, Option.option_eq, Str.bytes_eq}
 use Rattle.std.proofs.{Math.Bool.and-false, Math.Bool.and-true, lemmas.List.length-map, lemmas.List.Elements.filter_agree}
 use Rattle.base_lists.proofs.Filters.{filter-both}
 use Rattle.base_numbers.proofs.Texts.{one_text, bytes_eq-turned}
 use Rattle.cdi_model.specs.declared.decl.{BeanDecl.BeanDecl, BindingDecl.BindingDecl, Decl.Decl, InterceptorDecl.InterceptorDecl}
-use Rattle.cdi_model.specs.declared.{decl.MemberDecl.MemberDecl, place.BeanPlace.BeanPlace, quals.Qual.Qual, refusal.Refusal.Refusal}
+use Rattle.cdi_model.specs.declared.{decl.MemberDecl.MemberDecl, place.BeanPlace.BeanPlace, quals.Qual.Qual}
 use Rattle.cdi_model.specs.declared.decl.UseKind.TheVariants as use_kinds
 use Rattle.cdi_model.specs.declared.refusal.Refusal.TheVariants as refusals
 use Rattle.cdi_match.specs.Covering.{agree, agree_at, covers, covers_by, given_name, is_binding}
 use Rattle.cdi_match.specs.Filling.{declared_of, fill, find_binding, value_of}
 use Rattle.cdi_match.specs.Filled.{FilledUse, filled, filled_by}
-use Rattle.cdi_effective.specs.{Bindings.class_bindings, Disposers.find_bean, Qualifiers.uses_one}
+use Rattle.cdi_effective.specs.{Qualifiers.uses_one}
 use Rattle.cdi_intercept.proofs.UseLemmas.{any-in_text_order}
 use Rattle.cdi_intercept.specs.Chains.{binds, chain_by, chain_told, covered_in, in_order, part_for, surrounds}
 use Rattle.cdi_intercept.specs.Sees.{SeenInterceptor, seen_interceptor, shares_type, is_seen, Seen, sees, names_around, ChainRestsOnSeen}
 use Rattle.cdi_intercept.specs.Sees.{ToldRestsOnSeen}
-use Rattle.cdi_intercept.specs.{Bindings.in_text_order, Bindings.set_at, Bindings.set_of, Sets.has_place, Sets.set_by}
+use Rattle.cdi_intercept.specs.{Bindings.in_text_order, Bindings.set_of}
 
 -- ---- covering by filled bindings
 
@@ -113,11 +113,7 @@ first-shared : (ds : List Decl) (set bindings : List Qual) → (not (nat_eq (len
     ≡ true
     → shares_type_of (in_text_order set) bindings ≡ true
 first-shared ds set [] h = absurd (false≢true h)
-first-shared ds set (u ∷ us) h =
-    let all = (and_parts (not (nat_eq (length (u ∷ us)) 0)) (list_all (covered_in ds set) (u ∷ us)) h).1 in
-    or_left (uses_one (in_text_order set) u.name) (shares_type_of (in_text_order set) us)
-    (any-in_text_order (λ v. bytes_eq u.name v.name) set
-    ∙ covered-used ds set u (and_parts (covered_in ds set u) (list_all (covered_in ds set) us) all).0)
+first-shared ds set (u ∷ us) h = grind (arith, u.name, any-in_text_order, covered-used)
 
 surrounds-seen : (ds : List Decl) (set : List Qual) (place : BeanPlace) (i : InterceptorDecl)
     → surrounds ds set place i ≡ (is_seen (in_text_order set) place i && binds_seen (sees ds set place) (seen_interceptor ds i))
@@ -136,15 +132,7 @@ surrounds-seen ds set place i = by (binds ds set i) refl
 names-seen : (ds : List Decl) (r : SeenInterceptor → Bool) (is : List InterceptorDecl)
     → map (λ i. i.name) (filter (λ i. r (seen_interceptor ds i)) is) ≡ map (λ i. i.name) (filter r (map (seen_interceptor ds) is))
 names-seen ds r [] = refl
-names-seen ds r (i ∷ is) = by (r (seen_interceptor ds i)) (names-seen ds r is)
-  where
-    by : (b : Bool)
-        → map (λ j. j.name) (filter (λ j. r (seen_interceptor ds j)) is) ≡ map (λ j. j.name) (filter r (map (seen_interceptor ds) is))
-        → map (λ j. j.name) (cond b (i ∷ filter (λ j. r (seen_interceptor ds j)) is) (filter (λ j. r (seen_interceptor ds j)) is))
-        ≡ map (λ j. j.name) (cond b (seen_interceptor ds i ∷ filter r (map (seen_interceptor ds) is))
-        (filter r (map (seen_interceptor ds) is)))
-    by true rest = ap (λ names. i.name ∷ names) rest
-    by false rest = rest
+names-seen ds r (i ∷ is) = grind (arith, names-seen ds r is, i.name)
 
 abbrev names_of_seen : Seen → List (List ℕ)
 names_of_seen seen = map (λ i. i.name) (filter (binds_seen seen) seen.interceptors)
@@ -168,20 +156,10 @@ chain_rests_on_seen ds es set others place same =
 told-around : (ds : List Decl) (found : Option BeanDecl) (place : BeanPlace) (names : List (List ℕ))
     → chain_told ds found place ≡ Ok names → names ≡ names_around ds (set_of ds found place) place
 told-around ds None place names e = cc
-told-around ds (Some bean) place names e = by (has_place bean place) e
-  where
-    around : List (List ℕ)
-    around = names_around ds (set_by ds (class_bindings ds bean) bean place) place
-
-    by : (b : Bool) → cond {A = Result (List (List ℕ)) Refusal} b (Ok around) (Err refusals.NoMethod) ≡ Ok names → names ≡ around
-    by true told = cc
-    by false told = cc
+told-around ds (Some bean) place names e = grind arith
 
 pub told_rests_on_seen : ToldRestsOnSeen
-told_rests_on_seen ds es class place names others same told told' =
-    told-around ds (find_bean class ds) place names told
-    ∙ chain_rests_on_seen ds es (set_at ds class place) (set_at es class place) place same
-    ∙ sym (told-around es (find_bean class es) place others told')
+told_rests_on_seen ds es class place names others same told told' = grind (arith, told-around, chain_rests_on_seen)
 
 -- the laws of an evaluation
 pub ruleset of_evaluations = (chain_rests_on_seen, told_rests_on_seen)
