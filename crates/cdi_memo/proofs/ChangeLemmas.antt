@@ -10,8 +10,7 @@ use Rattle.cdi_memo.specs.Answers.{answer, answers_in, how_many, parts_under, An
 use Rattle.cdi_memo.specs.Laws.{AreOnce, NamesHaveParts}
 
 pub turned : (b s : Bool) → s ≡ not b → b ≡ not s
-turned true s is = ap not (sym is)
-turned false s is = ap not (sym is)
+turned t1 s is = grind arith
 
 pub some-there : {X Y : Type 0} (test : X → Bool) (es : List (X × Y)) (y : Y) → lookup test es ≡ Some y → 0 < length es
 some-there test [] y found = absurd (let no : None ≡ Some y = found in cc)
@@ -66,9 +65,7 @@ module _ {Q A S : Type 0} (eq : Q → Q → Bool) where
   -- nothing is kept
   pub empty-once : (es : List (List ℕ × IndexMap Q A S)) → es ≡ []
       → (0 ≡ how_many (answers_in es)) × AreOnce eq (answers_in es) × NamesHaveParts (answers_in es)
-  empty-once es is =
-      subst (λ xs. (0 ≡ how_many (answers_in xs)) × AreOnce eq (answers_in xs) × NamesHaveParts (answers_in xs)) (sym is)
-      (refl, (differ-nil bytes_eq, λ n. differ-nil eq), λ n. tt)
+  empty-once es is = grind (arith, differ-nil)
 
   -- nothing is removed where the name has no answers
   pub absent : (es : List (List ℕ × IndexMap Q A S)) (name : List ℕ) (q : Q) → lookup (bytes_eq name) es ≡ None

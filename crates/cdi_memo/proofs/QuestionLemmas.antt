@@ -33,16 +33,8 @@ module _ {Q : Type 0} (eq : Q → Q → Bool) where
 
   row-has : {A : Type 0} (k : Question Q) (name : List ℕ) (ps : List (Q × A))
       → list_any (same_question eq k) (map (λ p. (name, p.0)) ps) ≡ (bytes_eq k.0 name && list_any (eq k.1) (keys_of ps))
-  row-has k name [] = by (bytes_eq k.0 name)
-    where
-      by : (b : Bool) → false ≡ (b && false)
-      by true = refl
-      by false = refl
-  row-has k name (p ∷ ps) = ap (λ b. (bytes_eq k.0 name && eq k.1 p.0) || b) (row-has k name ps) ∙ by (bytes_eq k.0 name)
-    where
-      by : (b : Bool) → ((b && eq k.1 p.0) || (b && list_any (eq k.1) (keys_of ps))) ≡ (b && (eq k.1 p.0 || list_any (eq k.1) (keys_of ps)))
-      by true = refl
-      by false = refl
+  row-has k name [] = grind (arith, k.0)
+  row-has k name (p ∷ ps) = grind (arith, row-has k name ps, k.0, k.1, p.0)
 
   row-differ : {A : Type 0} → (name : List ℕ) (ps : List (Q × A)) (rest : List (Question Q)) → IsDistinct eq (keys_of ps)
       → ((q : Q) → list_any (same_question eq (name, q)) rest ≡ false) → IsDistinct (same_question eq) rest
@@ -69,11 +61,7 @@ module _ {Q A : Type 0} where
 module _ {Q A : Type 0} (eq : Q → Q → Bool) where
   -- An answer is kept just of the parts that stand under its name.
   pub parts-kept : (m : Answers Q A) → PartsAreKept eq m
-  parts-kept m n q = by (lookup (bytes_eq n) m)
-    where
-      by : (o : Option (List (Q × A))) → is_some (option_map_or (λ parts. lookup (eq q) parts) o None) ≡ list_any (eq q) (keys_of (unwrap_or o []))
-      by None = refl
-      by (Some parts) = is_some-lookup (eq q) parts
+  parts-kept m n q = grind (arith, is_some-lookup)
 
   none-kept : (m : Answers Q A) (k : Question Q) → lookup (bytes_eq k.0) m ≡ None → is_kept eq m k ≡ false
   none-kept m k absent = ap (λ o. is_some (option_map_or (λ parts. lookup (eq k.1) parts) o None)) absent
@@ -118,11 +106,7 @@ module _ {Q A : Type 0} (eq : Q → Q → Bool) where
 module _ {Q A : Type 0} where
   have-rest : (e : List ℕ × List (Q × A)) (m : Answers Q A) → IsDistinct bytes_eq (keys_of (e ∷ m)) → NamesHaveParts (e ∷ m)
       → NamesHaveParts m
-  have-rest e m d have n = by (bytes_eq n e.0) refl
-    where
-      by : (b : Bool) → bytes_eq n e.0 ≡ b → IfSome (lookup (bytes_eq n) m) (λ parts. 0 < length parts)
-      by true is = subst (λ o. IfSome o (λ parts. 0 < length parts)) (sym (no-more e m n d is)) tt
-      by false is = subst (λ b. IfSome (cond b (Some e.1) (lookup (bytes_eq n) m)) (λ parts. 0 < length parts)) is (have n)
+  have-rest e m d have n = grind (arith, e.0, e.1, no-more)
 
   -- No more names stand than answers are kept.
   pub names-below : (m : Answers Q A) → IsDistinct bytes_eq (keys_of m) → NamesHaveParts m → length m ≤ how_many m
@@ -185,8 +169,7 @@ module _ {Q A : Type 0} (eq : Q → Q → Bool) (laws : IsEquivalence eq) where
       (λ l. questions-have eq n l once'.0 ∙ is l ∙ sym (questions-have eq m l once.0))
 
   kept-or : (s : Bool) (a : A) (o : Option A) → is_some (cond s (Some a) o) ≡ (s || is_some o)
-  kept-or true a o = refl
-  kept-or false a o = refl
+  kept-or t1 a o = grind arith
 
   -- A question more has an answer after one is kept that had each-fails.
   pub count-more : (name : List ℕ) (q : Q) (a : A) (m n : Answers Q A) → AreOnce eq m → AreOnce eq n → Keeps eq name q a m n
