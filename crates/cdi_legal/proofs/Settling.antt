@@ -1,7 +1,7 @@
 -- Along a legal tree each ready instance has its dependent objects.
 use Rattle.cdi_legal.proofs.Common.{false_from_ne_true, all-weaker, ◌≡◌, ◌<◌, ℕ, false, None, Some, refl, Outcome, Act, Actor, InstanceId}
 use Rattle.cdi_legal.proofs.Common.{Owner, Nobody, Scene, Touches, Ends, Answer, Legal, Node, Uses, Use, Runs, Command, Moment, put}
-use Rattle.cdi_legal.proofs.Common.{ask_more, Entry, ◌+◌, ◌≤◌, inl, inr, Bool, true, List, [], ◌∷◌, arith, ap, subst, sym, ◌∙◌}
+use Rattle.cdi_legal.proofs.Common.{ask_more, Entry, ◌+◌, ◌≤◌, inl, inr, Bool, true, List, [], ◌∷◌, length, arith, ap, subst, sym, ◌∙◌}
 use Rattle.cdi_legal.proofs.Common.{AllByRecursion, Scope, is_of, Instance, Point, Option, Failure, Value, Val, Null, as_product, bean_at}
 use Rattle.cdi_legal.proofs.Common.{Bean, Product, Held, outcome_is, context, IsFurnished, managed_at, Managed, create, ◌++◌, Bodies}
 use Rattle.cdi_legal.proofs.Common.{IsSound, IsSoundForm, Form, ◌==◌, ◌&&◌, map, slice_get, is_at, IsOwnerOf, finish, IsRising-finished}
@@ -457,9 +457,14 @@ legal_young apart (Legal.produced_on_own _ n i _ _ _ _ m m₁ m₂ m' _ _ _ _ _ 
 legal_young apart (Legal.attended_own _ _ _ _ _ _ _ m m₁ m₂ m' _ _ _ _ p4 p5 p6) a = λ h.
     ended m.standing.given p6 (created p4) (wrap p5 tt (legal_young apart p5 tt) (wrap p4 tt (legal_young apart p4
     tt) h))
-legal_young apart (Legal.not_supplied _ _ _ _ had _ _ m m₁ m' p0 p1) a = grind (arith, m.standing.given, held-ended, supplied-spare, wrap)
-legal_young apart (Legal.attended _ _ _ _ had _ _ _ m m₁ m₂ m' p0 p1 p2) a =
-    grind (arith, m.standing.given, wrap, held-ended, spare-after, supplied-spare)
+legal_young apart (Legal.not_supplied _ _ _ _ had _ _ m m₁ m' p0 p1) a = λ h.
+    held-ended m.standing.given had (length had) p1 (supplied-spare m.standing.given p0 h.rises tt)
+    (wrap p0 tt (legal_young apart p0 tt) h)
+legal_young apart (Legal.attended _ _ _ _ had _ _ _ m m₁ m₂ m' p0 p1 p2) a = λ h.
+    let settled = wrap p0 tt (legal_young apart p0 tt) h in
+    held-ended m.standing.given had (length had) p2
+    (spare-after m.standing.given had p1 tt settled.rises (supplied-spare m.standing.given p0 h.rises tt))
+    (wrap p1 tt (legal_young apart p1 tt) settled)
 legal_young apart (Legal.inactive _ _ _ m _ _) a =
     young (none m)
 legal_young apart (Legal.present _ _ _ _ m _ _ _ _) a =
