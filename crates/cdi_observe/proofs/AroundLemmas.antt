@@ -1,9 +1,9 @@
 -- The names of the interceptors around a bean tell which of them stand around it.
 use Rattle.cdi_observe.proofs.Common.{◌≡◌, ℕ, zero, suc, Bool, true, false, cond, not, ◌&&◌, ◌||◌, List, [], ◌∷◌, ◌++◌, map, length, Some}
 use Rattle.cdi_observe.proofs.Common.{Ok, Err, get_or, refl, sym, ap, ◌∙◌, AllByRecursion, flat_map, list_any, bytes_eq, false≢true}
-use Rattle.cdi_observe.proofs.Common.{or_left, or_right, recursion_from_All, slice_get-get_or, find_decl, AreDistinct, BeanDecl, Decl}
-use Rattle.cdi_observe.proofs.Common.{BeanPlace, Refusal, find_bean, own-found, chain_told, has_place, places_of, one_text, names_at}
-use Rattle.cdi_observe.proofs.Common.{names_of_bean, filter, slice_get}
+use Rattle.cdi_observe.proofs.Common.{recursion_from_All, slice_get-get_or, find_decl, AreDistinct, BeanDecl, Decl, BeanPlace, Refusal}
+use Rattle.cdi_observe.proofs.Common.{find_bean, own-found, chain_told, has_place, places_of, one_text, names_at, names_of_bean, filter}
+use Rattle.cdi_observe.proofs.Common.{slice_get, arith}
 use Rattle.std.proofs.{Common.Result, Common.nat_eq, Math.Bool.and-false, lemmas.Option.none-some, lemmas.Option.same_Some}
 use Rattle.base_lists.proofs.Any.{any-flat_map, any-same, any-left, some_left}
 use Rattle.base_lists.proofs.Sorting.{any-sorted}
@@ -22,8 +22,7 @@ use Rattle.cdi_intercept.proofs.ChainLemmas.{in_order-declared, IsDeclared}
 -- ---- the names at a place are those that are told of it
 
 told-where : {X : Type 0} (has : Bool) (x : X) (refusal : Refusal) → has ≡ true → cond has (Ok x) (Err refusal) ≡ Ok x
-told-where true x refusal e = refl
-told-where false x refusal e = absurd (false≢true e)
+told-where t1 x refusal e = grind (arith, false≢true)
 
 pub told-names : (ds : List Decl) (bean : BeanDecl) (place : BeanPlace) → find_bean bean.name ds ≡ Some bean → has_place bean place ≡ true
     → chain_of ds bean.name place ≡ Ok (names_at ds bean place)
@@ -41,10 +40,7 @@ told-same ds bean place names found there is =
 -- ---- an interceptor among those around a place
 
 kept-or-not : (b c own rest any : Bool) → (b ≡ true → c ≡ own) → rest ≡ (own && any) → cond c (b || rest) rest ≡ (own && (b || any))
-kept-or-not true true own rest any same is = ap (λ q. q && true) (same refl)
-kept-or-not true false own rest any same is = is ∙ ap (λ q. q && any) (sym (same refl)) ∙ ap (λ q. q && true) (same refl)
-kept-or-not false true own rest any same is = is
-kept-or-not false false own rest any same is = is
+kept-or-not t1 u2 own rest any same is = grind arith
 
 module _ (i : InterceptorDecl) where
   -- it has the name
@@ -54,13 +50,7 @@ module _ (i : InterceptorDecl) where
   has-filtered : (p : InterceptorDecl → Bool) (xs : List InterceptorDecl) → AllByRecursion (λ x. is_named x ≡ true → x ≡ i) xs
       → has (map (λ x. x.name) (filter p xs)) i.name ≡ (p i && list_any is_named xs)
   has-filtered p [] all = sym (and-false (p i))
-  has-filtered p (x ∷ xs) all =
-      shown (p x) ∙ kept-or-not (is_named x) (p x) (p i) _ (list_any is_named xs) (λ e. ap p (all.0 e)) (has-filtered p xs all.1)
-    where
-      shown : (c : Bool) → has (map (λ x. x.name) (cond c (x ∷ filter p xs) (filter p xs))) i.name
-          ≡ cond c (is_named x || has (map (λ x. x.name) (filter p xs)) i.name) (has (map (λ x. x.name) (filter p xs)) i.name)
-      shown true = refl
-      shown false = refl
+  has-filtered p (x ∷ xs) all = grind (arith, has-filtered p xs all.1, all.0, all.1, x.name, kept-or-not)
 
   named-so : is_named i ≡ true
   named-so = same_text i.name i.name refl
@@ -69,17 +59,8 @@ module _ (i : InterceptorDecl) where
   any-declared : (ds : List Decl) (k : ℕ) → slice_get ds k ≡ Some (decls.Interceptor i) → is_enabled i ≡ true
       → list_any is_named (filter is_enabled (interceptors ds)) ≡ true
   any-declared [] k at enabled = absurd (none-some (decls.Interceptor i) at)
-  any-declared (d ∷ ds) zero at enabled =
-      let here : d ≡ decls.Interceptor i = same_Some d (decls.Interceptor i) at in
-      ap (λ e. list_any is_named (filter is_enabled (interceptors (e ∷ ds)))) here
-      ∙ ap (λ b. list_any is_named (cond b (i ∷ filter is_enabled (interceptors ds)) (filter is_enabled (interceptors ds)))) enabled
-      ∙ or_left (is_named i) (list_any is_named (filter is_enabled (interceptors ds))) named-so
-  any-declared (decls.Interceptor x ∷ ds) (suc k) at enabled = by (is_enabled x) (any-declared ds k at enabled)
-    where
-      by : (b : Bool) → list_any is_named (filter is_enabled (interceptors ds)) ≡ true
-          → list_any is_named (cond b (x ∷ filter is_enabled (interceptors ds)) (filter is_enabled (interceptors ds))) ≡ true
-      by true more = or_right (is_named x) (list_any is_named (filter is_enabled (interceptors ds))) more
-      by false more = more
+  any-declared (d ∷ ds) zero at enabled = grind (arith, same_Some, named-so)
+  any-declared (decls.Interceptor x ∷ ds) (suc k) at enabled = grind (arith, any-declared ds k at enabled)
   any-declared (other ∷ ds) (suc k) at enabled = any-declared ds k at enabled
 
 module _ (ds : List Decl) (distinct : AreDistinct ds) where
@@ -103,8 +84,7 @@ module _ (ds : List Decl) (distinct : AreDistinct ds) where
   any-named i there enabled = any-sorted is_before (is_named i) (filter is_enabled (interceptors ds)) ∙ any-declared i ds there.0 there.1 enabled
 
   and-true : (a b : Bool) → b ≡ true → (a && b) ≡ a
-  and-true true b e = e
-  and-true false b e = refl
+  and-true t1 b e = grind arith
 
   has-of : (p : InterceptorDecl → Bool) (i : InterceptorDecl) → IsDeclared ds i → is_enabled i ≡ true
       → has (map (λ x. x.name) (filter p (in_order ds))) i.name ≡ p i
@@ -120,9 +100,7 @@ has-at ds bean place i distinct there enabled = has-of ds distinct (surrounds ds
 pub has-names_at : (ds : List Decl) (bean : BeanDecl) (place : BeanPlace) (k : ℕ) (i : InterceptorDecl) → AreDistinct ds
     → slice_get (in_order ds) k ≡ Some i
     → has (names_at ds bean place) i.name ≡ surrounds ds (set_by ds (class_bindings ds bean) bean place) place i
-has-names_at ds bean place k i distinct at =
-    let found = in_order-declared ds k i at in
-    has-at ds bean place i distinct found.0 found.1
+has-names_at ds bean place k i distinct at = grind (arith, in_order-declared, has-at)
 
 -- ---- among those around all places
 
@@ -136,17 +114,13 @@ has-all ds bean i distinct there enabled =
 
 pub has-names : (ds : List Decl) (bean : BeanDecl) (k : ℕ) (i : InterceptorDecl) → AreDistinct ds → slice_get (in_order ds) k ≡ Some i
     → has (names_of_bean ds bean) i.name ≡ surrounds_one ds (sets_of ds (class_bindings ds bean) bean) i
-has-names ds bean k i distinct at =
-    let found = in_order-declared ds k i at in
-    has-all ds bean i distinct found.0 found.1
+has-names ds bean k i distinct at = grind (arith, in_order-declared, has-all)
 
 -- one that is declared and enabled
 pub stands-named : (ds : List Decl) (bean : BeanDecl) (k : ℕ) (i : InterceptorDecl) → AreDistinct ds → slice_get ds k ≡ Some (decls.Interceptor i)
     → is_enabled i ≡ true → has (names_of_bean ds bean) i.name ≡ stands_around ds i bean
 unfolding stands_around
-stands-named ds bean k i distinct at enabled =
-    has-all ds bean i distinct (k, at) enabled
-    ∙ ap (λ b. b && surrounds_one ds (sets_of ds (class_bindings ds bean) bean) i) (sym enabled)
+stands-named ds bean k i distinct at enabled = grind (arith, has-all)
 
 -- ---- whether there is one
 

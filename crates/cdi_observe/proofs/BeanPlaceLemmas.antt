@@ -1,7 +1,7 @@
 -- The places of a bean.
-use Rattle.cdi_observe.proofs.Common.{◌≡◌, Bool, true, false, cond, not, ◌&&◌, ◌||◌, List, [], ◌∷◌, ◌++◌, map, Some, refl, sym, ap, ◌∙◌}
-use Rattle.cdi_observe.proofs.Common.{AllByRecursion, list_any, bytes_eq, or_left, or_right, list_any-append, BeanDecl, BeanPlace, or-false}
-use Rattle.cdi_observe.proofs.Common.{has_place, places_of, filter, same_place, methods_of, observers_of, producers_of}
+use Rattle.cdi_observe.proofs.Common.{◌≡◌, Bool, true, false, not, ◌&&◌, ◌||◌, List, [], ◌∷◌, ◌++◌, map, refl, sym, ap, ◌∙◌, AllByRecursion}
+use Rattle.cdi_observe.proofs.Common.{list_any, bytes_eq, or_left, or_right, list_any-append, BeanDecl, BeanPlace, or-false, has_place}
+use Rattle.cdi_observe.proofs.Common.{places_of, filter, same_place, methods_of, observers_of, producers_of, arith}
 use Rattle.std.proofs.Common.{is_some, option_map}
 use Rattle.std.specs.List.{find}
 use Rattle.base_numbers.proofs.Texts.{bytes_eq-turned}
@@ -12,12 +12,7 @@ use Rattle.cdi_observe.proofs.KeyLemmas.{same_place-decides}
 found-any : {X : Type 0} {Y : Type 0} (q r : X → Bool) (f : X → Y) (xs : List X) → ((x : X) → q x ≡ r x)
     → list_any q xs ≡ is_some (option_map f (find r xs))
 found-any q r f [] same = refl
-found-any {X = X} {Y = Y} q r f (x ∷ xs) same = ap (λ b. b || list_any q xs) (same x) ∙ by (r x) (found-any q r f xs same)
-  where
-    by : (b : Bool) → list_any q xs ≡ is_some (option_map f (find r xs))
-        → (b || list_any q xs) ≡ is_some (option_map f (cond b (Some x) (find r xs)))
-    by true more = refl
-    by false more = more
+found-any {X = X} {Y = Y} q r f (x ∷ xs) same = grind (arith, found-any q r f xs same)
 
 module _ (place : BeanPlace) where
   abbrev is : BeanPlace → Bool
@@ -36,20 +31,7 @@ module _ (place : BeanPlace) where
 
 filtered : {X : Type 0} (q t : X → Bool) (xs : List X) → list_any q (filter t xs) ≡ list_any (λ x. q x && t x) xs
 filtered q t [] = refl
-filtered {X = X} q t (x ∷ xs) = by (t x) (filtered q t xs)
-  where
-    by : (b : Bool) → list_any q (filter t xs) ≡ list_any (λ x. q x && t x) xs
-        → list_any q (cond b (x ∷ filter t xs) (filter t xs)) ≡ ((q x && b) || list_any (λ x. q x && t x) xs)
-    by true more = ap (λ c. q x || c) more ∙ ap (λ c. c || list_any (λ x. q x && t x) xs) (sym (and-true (q x)))
-      where
-        and-true : (b : Bool) → (b && true) ≡ b
-        and-true true = refl
-        and-true false = refl
-    by false more = more ∙ ap (λ c. c || list_any (λ x. q x && t x) xs) (sym (and-false (q x)))
-      where
-        and-false : (b : Bool) → (b && false) ≡ false
-        and-false true = refl
-        and-false false = refl
+filtered {X = X} q t (x ∷ xs) = grind (arith, filtered q t xs)
 
 -- a place is among those of a bean exactly where the bean has it
 pub has-it : (b : BeanDecl) (place : BeanPlace) → list_any (same_place place) (places_of b) ≡ has_place b place

@@ -1,8 +1,8 @@
 -- Evaluations of keys in other orders, and of keys that stand twice.
 use Rattle.cdi_observe.proofs.Common.{◌≡◌, ℕ, zero, suc, Bool, true, false, cond, ◌&&◌, ◌||◌, List, [], ◌∷◌, refl, sym, ap, ◌∙◌}
-use Rattle.cdi_observe.proofs.Common.{AllByRecursion, false≢true, or_left, or_right, Decl, take, inl, inr, and_from, or_cases}
-use Rattle.cdi_observe.proofs.Common.{All-from_recursion, with_one, Key, same_key, has_key, each_once, is_wanted, Kept, with_known}
-use Rattle.cdi_observe.proofs.Common.{work_with, after_key, evaluated, EvaluatesSome}
+use Rattle.cdi_observe.proofs.Common.{AllByRecursion, false≢true, or_left, or_right, Decl, take, inl, inr, or_cases, All-from_recursion}
+use Rattle.cdi_observe.proofs.Common.{with_one, Key, same_key, has_key, each_once, is_wanted, Kept, with_known, work_with, after_key}
+use Rattle.cdi_observe.proofs.Common.{evaluated, EvaluatesSome, arith}
 use Rattle.std.proofs.Common.{◌⊎◌}
 use Rattle.cdi_observe.proofs.KeyLemmas.{same_key-decides, same_key-equiv}
 use Rattle.cdi_observe.proofs.KeptLemmas.{after_known, each-among}
@@ -11,24 +11,15 @@ use Rattle.cdi_observe.proofs.WantedLemmas.{each_once-apart, has-each_once}
 -- ---- two keys
 
 or-swap : (a b c : Bool) → ((a || b) || c) ≡ ((a || c) || b)
-or-swap true b c = refl
-or-swap false true true = refl
-or-swap false true false = refl
-or-swap false false true = refl
-or-swap false false false = refl
+or-swap t1 b c = grind arith
 
 counts-swap : (a b : Bool) (w : ℕ) → cond a (cond b w (with_one w)) (with_one (cond b w (with_one w)))
     ≡ cond b (cond a w (with_one w)) (with_one (cond a w (with_one w)))
-counts-swap true true w = refl
-counts-swap true false w = refl
-counts-swap false true w = refl
-counts-swap false false w = refl
+counts-swap t1 u2 w = grind arith
 
 -- a key that is another is known after that only where it was
 apart-known : (a b c : Bool) → c ≡ false → (a || (b && c)) ≡ a
-apart-known true b c e = refl
-apart-known false true c e = e
-apart-known false false c e = refl
+apart-known t1 b c e = grind arith
 
 module _ (ds : List Decl) (knows : Key → Bool) (work : ℕ) where
   -- the work of the second, after the first
@@ -36,36 +27,19 @@ module _ (ds : List Decl) (knows : Key → Bool) (work : ℕ) where
   second k l = work_with (with_known ds knows l) k (work_with knows l work)
 
   second-swap : (k l : Key) → second k l ≡ second l k
-  second-swap k l = by (same_key l k) refl
-    where
-      by : (b : Bool) → same_key l k ≡ b → second k l ≡ second l k
-      by true e =
-          let one : l ≡ k = (same_key-decides l k).0 e in
-          ap (second k) one ∙ ap (λ m. second m k) (sym one)
-      by false e =
-          ap (λ b. cond b (work_with knows l work) (with_one (work_with knows l work))) (apart-known (knows k) (is_wanted ds l) (same_key l k) e)
-          ∙ counts-swap (knows k) (knows l) work
-          ∙ ap (λ b. cond b (work_with knows k work) (with_one (work_with knows k work)))
-          (sym (apart-known (knows l) (is_wanted ds k) (same_key k l) (same_key-equiv.symm k l ∙ e)))
+  second-swap k l = grind (arith, same_key-decides, apart-known, counts-swap, same_key-equiv.symm)
 
   abbrev before : Bool → Kept
   before keeps = record { keeps = keeps; knows = knows; work = work }
 
   swap-at : (k l : Key) (keeps : Bool) → after_key ds k (after_key ds l (before keeps)) ≡ after_key ds l (after_key ds k (before keeps))
   unfolding after_key
-  swap-at k l false = refl
-  swap-at k l true = λ j. record {
-    keeps = true;
-    knows = λ x. or-swap (knows x) (is_wanted ds l && same_key l x) (is_wanted ds k && same_key k x) j;
-    work = second-swap k l j;
-  }
+  swap-at k l t1 = grind (arith, or-swap, second-swap)
 
   twice-at : (k : Key) (keeps : Bool) → is_wanted ds k ≡ true
       → after_key ds k (after_key ds k (before keeps)) ≡ after_key ds k (before keeps)
   unfolding after_key
-  twice-at k false wants = refl
-  twice-at k true wants = after_known ds k (after_key ds k (before true))
-      (or_right (knows k) (is_wanted ds k && same_key k k) (and_from (is_wanted ds k) (same_key k k) wants (same_key-equiv.refl k)))
+  twice-at k t1 wants = grind (arith, after_known, same_key-equiv.refl)
 
 -- two evaluations leave the same in either order
 after-swap : (ds : List Decl) (k l : Key) (kept : Kept) → after_key ds k (after_key ds l kept) ≡ after_key ds l (after_key ds k kept)
@@ -122,12 +96,18 @@ known-absorbed : (ds : List Decl) (keys all : List Key) (kept : Kept) → AllByR
     → AllByRecursion (λ key. (kept.knows key ≡ true) ⊎ (has_key all key ≡ true)) keys
     → evaluated ds all (evaluated ds keys kept) ≡ evaluated ds all kept
 known-absorbed ds [] all kept wants either = refl
-known-absorbed ds (k ∷ keys) all kept wants either = elim either.0 [
-  | inl known ↦ ap (λ now. evaluated ds all (evaluated ds keys now)) (after_known ds k kept known)
-      ∙ known-absorbed ds keys all kept wants.1 either.1
-  | inr later ↦ ap (evaluated ds all) (after-evaluated ds k keys kept) ∙ absorbed ds k all (evaluated ds keys kept) wants.0 later
-      ∙ known-absorbed ds keys all kept wants.1 either.1
-]
+known-absorbed ds (k ∷ keys) all kept wants either =
+    grind (
+      arith,
+      known-absorbed ds keys all kept wants.1 either.1,
+      either.0,
+      wants.1,
+      either.1,
+      wants.0,
+      after_known,
+      after-evaluated,
+      absorbed,
+    )
 
 -- wanted keys that have each other one which is not known leave what all leave
 pub evaluated-rest : (ds : List Decl) (rest all : List Key) (kept : Kept) → ((key : Key) → has_key all key ≡ true → is_wanted ds key ≡ true)

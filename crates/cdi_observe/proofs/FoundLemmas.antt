@@ -1,9 +1,8 @@
 -- Declarations that are found by their kinds and names.
-use Rattle.cdi_observe.proofs.Common.{◌≡◌, Bool, true, false, cond, List, [], ◌∷◌, map, Some, get_or, sym, ap, ◌∙◌, AllByRecursion}
-use Rattle.cdi_observe.proofs.Common.{list_any, or_left, or_right, recursion_from_All, slice_get-get_or, find_decl, AreDistinct, Decl}
-use Rattle.cdi_observe.proofs.Common.{own-found, All-from_recursion, subst, All, kind_of, name_of_decl}
+use Rattle.cdi_observe.proofs.Common.{◌≡◌, Bool, true, List, [], ◌∷◌, map, Some, get_or, sym, AllByRecursion, list_any, recursion_from_All}
+use Rattle.cdi_observe.proofs.Common.{slice_get-get_or, find_decl, AreDistinct, Decl, own-found, All-from_recursion, subst, All, kind_of}
+use Rattle.cdi_observe.proofs.Common.{name_of_decl, arith}
 use Rattle.std.proofs.Common.{None}
-use Rattle.cdi_model.specs.DeclList.{is_of}
 
 -- a declaration that is found by its kind and name
 abbrev pub IsFound : List Decl → Decl → Type 0
@@ -22,12 +21,7 @@ each-lent value ds ps all = mapped value ds ps (recursion_from_All (λ p. IsFoun
 -- what passes a test is one that does
 pub found-any : (f : Decl → Bool) (ds : List Decl) (d : Decl) → IsFound ds d → f d ≡ true → list_any f ds ≡ true
 found-any f [] d found passes = absurd (let no : None ≡ Some d = found in cc)
-found-any f (e ∷ ds) d found passes = by (is_of (kind_of d) (name_of_decl d) e) found (found-any f ds d)
-  where
-    by : (b : Bool) → cond b (Some e) (find_decl (kind_of d) (name_of_decl d) ds) ≡ Some d
-        → (IsFound ds d → f d ≡ true → list_any f ds ≡ true) → list_any f (e ∷ ds) ≡ true
-    by true here rest = or_left (f e) (list_any f ds) (ap f (let some : Some e ≡ Some d = here in let same : e ≡ d = cc in same) ∙ passes)
-    by false there rest = or_right (f e) (list_any f ds) (rest there passes)
+found-any f (e ∷ ds) d found passes = grind (arith, found-any f ds d)
 
 -- each of declarations without two of one key is found
 pub each-found : (ds : List Decl) → AreDistinct ds → AllByRecursion (IsFound ds) ds

@@ -1,9 +1,9 @@
 -- What evaluations of keys leave.
-use Rattle.cdi_observe.proofs.Common.{◌≡◌, ℕ, suc, Bool, true, false, cond, not, ◌&&◌, ◌||◌, List, [], ◌∷◌, ◌++◌, length, get_or, refl, sym}
-use Rattle.cdi_observe.proofs.Common.{ap, ◌∙◌, AllByRecursion, false≢true, or_left, or_right, recursion_from_All, Decl, take, list_all}
-use Rattle.cdi_observe.proofs.Common.{and_parts, All-from_recursion, with_one, Key, same_key, has_key, is_wanted, Kept, with_known}
-use Rattle.cdi_observe.proofs.Common.{work_with, after_key, evaluated, EvaluatesSome, All, ◌≢◌, ◌<◌, ◌+◌, AllPairs, IsDistinct, or_assoc}
-use Rattle.cdi_observe.proofs.Common.{or-false, AllPass-from_list_all, wanted, filter}
+use Rattle.cdi_observe.proofs.Common.{◌≡◌, ℕ, Bool, true, false, cond, not, ◌||◌, List, [], ◌∷◌, ◌++◌, length, get_or, refl, sym, ap, ◌∙◌}
+use Rattle.cdi_observe.proofs.Common.{AllByRecursion, false≢true, or_left, or_right, recursion_from_All, Decl, take, list_all, and_parts}
+use Rattle.cdi_observe.proofs.Common.{All-from_recursion, with_one, Key, same_key, has_key, is_wanted, Kept, work_with, after_key}
+use Rattle.cdi_observe.proofs.Common.{evaluated, EvaluatesSome, All, ◌≢◌, ◌<◌, ◌+◌, AllPairs, IsDistinct, or_assoc, or-false}
+use Rattle.cdi_observe.proofs.Common.{AllPass-from_list_all, wanted, filter, arith}
 use Rattle.std.specs.Fn.{iterate}
 use Rattle.std.proofs.lemmas.List.{take_more, Elements.All-take, Sums.fold-append, Sums.list_all-from_AllPass}
 use Rattle.std.proofs.lemmas.Map.Made.{IsDistinct-from_AllPairs}
@@ -27,38 +27,18 @@ evaluated-more ds keys i d kept lt = ap (λ xs. evaluated ds xs kept) (take_more
 pub evaluated-next : (ds es : List Decl) (keys : List Key) (i : ℕ) (key : Key) (kept before after : Kept) → i < length keys
     → key ≡ get_or keys i key → es ≡ ds
     → before ≡ evaluated ds (take i keys) kept → after ≡ after_key es key before → after ≡ evaluated ds (take (i + 1) keys) kept
-evaluated-next ds es keys i key kept before after lt at same is next =
-    next
-    ∙ ap (λ l. after_key l key before) same
-    ∙ ap (after_key ds key) is
-    ∙ ap (λ k. after_key ds k (evaluated ds (take i keys) kept)) at
-    ∙ sym (evaluated-more ds keys i key kept lt)
+evaluated-next ds es keys i key kept before after lt at same is next = grind (arith, evaluated-more)
 
 -- ---- one key
 
 -- what is known to start with stays known
 or_same : (b c : Bool) → (c ≡ true → b ≡ true) → (b || c) ≡ b
-or_same true c within = refl
-or_same false true within = absurd (false≢true (within refl))
-or_same false false within = refl
+or_same t1 c within = grind (arith, false≢true)
 
 -- a known key changes nothing
 pub after_known : (ds : List Decl) (key : Key) (kept : Kept) → kept.knows key ≡ true → after_key ds key kept ≡ kept
 unfolding after_key
-after_known ds key kept known = by kept.keeps refl
-  where
-    within : (k : Key) (b : Bool) → (b && same_key key k) ≡ true → kept.knows k ≡ true
-    within k true e = ap kept.knows (sym ((same_key-decides key k).0 e)) ∙ known
-    within k false e = absurd (false≢true e)
-
-    by : (b : Bool) → kept.keeps ≡ b
-        → cond b (record { keeps = true; knows = with_known ds kept.knows key; work = work_with kept.knows key kept.work }) kept ≡ kept
-    by false e = refl
-    by true e = λ j. record {
-      keeps = sym e j;
-      knows = λ k. or_same (kept.knows k) (is_wanted ds key && same_key key k) (within k (is_wanted ds key)) j;
-      work = ap (λ b. cond b kept.work (with_one kept.work)) known j;
-    }
+after_known ds key kept known = grind (arith, kept.keeps, kept.knows, kept.work, same_key-decides, false≢true, or_same)
 
 -- ---- keys that are known
 
@@ -86,45 +66,24 @@ with_one_key k kept = record { keeps = true; knows = λ key. kept.knows key || s
 after_wanted : (ds : List Decl) (k : Key) (kept : Kept) → kept.keeps ≡ true → is_wanted ds k ≡ true
     → after_key ds k kept ≡ with_one_key k kept
 unfolding after_key
-after_wanted ds k kept keeps wants =
-    rw keeps (ap (λ b. record {
-      keeps = true;
-      knows = λ key. kept.knows key || (b && same_key k key);
-      work = work_with kept.knows k kept.work;
-    }) wants)
+after_wanted ds k kept keeps wants = grind (arith, kept.knows, kept.work)
 
 -- a key apart from all of some keys leaves how many of these are unknown
 unknown-apart : (knows : Key → Bool) (k : Key) (keys : List Key) → AllByRecursion (λ l. same_key k l ≡ false) keys
     → unknown (λ key. knows key || same_key k key) keys ≡ unknown knows keys
 unknown-apart knows k [] apart = refl
-unknown-apart knows k (l ∷ keys) apart =
-    let same : (knows l || same_key k l) ≡ knows l = ap (λ b. knows l || b) apart.0 ∙ or-false (knows l) in
-    ap (λ b. length (cond (not b) (l ∷ filter (λ key. not (knows key || same_key k key)) keys)
-    (filter (λ key. not (knows key || same_key k key)) keys))) same
-    ∙ by (knows l) (unknown-apart knows k keys apart.1)
-  where
-    by : (b : Bool) → unknown (λ key. knows key || same_key k key) keys ≡ unknown knows keys
-        → length (cond (not b) (l ∷ filter (λ key. not (knows key || same_key k key)) keys)
-        (filter (λ key. not (knows key || same_key k key)) keys))
-        ≡ length (cond (not b) (l ∷ filter (λ key. not (knows key)) keys) (filter (λ key. not (knows key)) keys))
-    by true rest = rest
-    by false rest = ap suc rest
+unknown-apart knows k (l ∷ keys) apart = grind (arith, unknown-apart knows k keys apart.1, apart.0, apart.1, or-false)
 
 counts-one : (k : Key) (keys : List Key) (b : Bool) (w : ℕ)
     → iterate with_one (length keys) (cond b w (with_one w)) ≡ iterate with_one (length (cond (not b) (k ∷ keys) keys)) w
-counts-one k keys true w = refl
-counts-one k keys false w = refl
+counts-one k keys t1 w = grind arith
 
 -- wanted keys of which none stands twice
 evaluated-distinct : (ds : List Decl) (keys : List Key) (kept : Kept) → kept.keeps ≡ true
     → AllByRecursion (λ key. is_wanted ds key ≡ true) keys → IsDistinct same_key keys
     → evaluated ds keys kept ≡ with_all keys kept
 unfolding IsDistinct
-evaluated-distinct ds [] kept keeps all apart = λ j. record {
-  keeps = keeps j;
-  knows = λ key. sym (or-false (kept.knows key)) j;
-  work = kept.work;
-}
+evaluated-distinct ds [] kept keeps all apart = grind (arith, kept.knows, kept.work, or-false)
 evaluated-distinct ds (k ∷ keys) kept keeps all apart =
     ap (evaluated ds keys) (after_wanted ds k kept keeps all.0)
     ∙ evaluated-distinct ds keys (with_one_key k kept) refl all.1 apart.1
@@ -153,13 +112,7 @@ evaluated-apart ds keys kept keeps wants apart =
     (IsDistinct-from_AllPairs same_key-decides keys apart)
 
 pub knows_wanted : KnowsWanted
-knows_wanted ds kept keeps =
-    evaluated-distinct ds (wanted ds) kept keeps (each-wanted ds) (wanted-distinct ds)
-    ∙ (λ j. record {
-      keeps = true;
-      knows = λ key. kept.knows key || has-wanted ds key j;
-      work = iterate with_one (unknown kept.knows (wanted ds)) kept.work;
-    })
+knows_wanted ds kept keeps = grind (arith, kept.knows, kept.work, evaluated-distinct, each-wanted, wanted-distinct, has-wanted)
 
 -- all wanted keys are some of which no two are one
 pub evaluates_all : (ds : List Decl) (old : Kept) → EvaluatesSome ds old (evaluated ds (wanted ds) old)

@@ -1,7 +1,7 @@
 -- Answers that may be asked for.
-use Rattle.cdi_observe.proofs.Common.{◌≡◌, true, false, not, ◌||◌, List, [], ◌∷◌, ◌++◌, refl, sym, ap, ◌∙◌, or_right, Decl, inl, inr}
-use Rattle.cdi_observe.proofs.Common.{and_from, and_parts, Key, is_wanted, Kept, after_key, evaluated, subst, wanted, cases_Bool}
-use Rattle.cdi_observe.proofs.Common.{is_answerable, asked_by, chains_by, events_by, wanted_by}
+use Rattle.cdi_observe.proofs.Common.{◌≡◌, true, false, not, ◌||◌, List, [], ◌∷◌, ◌++◌, refl, sym, ap, ◌∙◌, Decl, and_from, and_parts, Key}
+use Rattle.cdi_observe.proofs.Common.{Kept, after_key, evaluated, subst, wanted, is_answerable, asked_by, chains_by, events_by, wanted_by}
+use Rattle.cdi_observe.proofs.Common.{arith}
 use Rattle.std.proofs.{Common.append-nil, lemmas.List.Folds.list_all-append}
 use Rattle.cdi_observe.proofs.FoundLemmas.{IsFound}
 use Rattle.cdi_observe.proofs.KeyLemmas.{all-pass}
@@ -20,18 +20,11 @@ unkept-answerable kept (k ∷ keys) none =
 pub none-kept : (ds : List Decl) (keys : List Key) (kept : Kept) → kept.keeps ≡ false → evaluated ds keys kept ≡ kept
 unfolding after_key
 none-kept ds [] kept none = refl
-none-kept ds (k ∷ keys) kept none =
-    let same : after_key ds k kept ≡ kept = rw none refl in
-    ap (evaluated ds keys) same ∙ none-kept ds keys kept none
+none-kept ds (k ∷ keys) kept none = grind (arith, none-kept ds keys kept none)
 
 -- after the evaluation of all that is wanted
 pub evaluated-all : (ds : List Decl) (old new : Kept) → new ≡ evaluated ds (wanted ds) old → IsEvaluated ds new
-evaluated-all ds old new is = elim (cases_Bool old.keeps) [
-  | inl keeps ↦ subst (λ kept. are_answerable kept (wanted ds) ≡ true) (sym (is ∙ knows_wanted ds old keeps))
-      (all-pass _ (wanted ds) (λ key h. or_right (old.knows key) (is_wanted ds key) (sym (has-wanted ds key) ∙ h)))
-  | inr none ↦ subst (λ kept. are_answerable kept (wanted ds) ≡ true) (sym (is ∙ none-kept ds (wanted ds) old none))
-      (unkept-answerable old (wanted ds) none)
-]
+evaluated-all ds old new is = grind (arith, old.keeps, old.knows, knows_wanted, all-pass, has-wanted, none-kept, unkept-answerable)
 
 -- so is what a declaration asks for
 wanted-answerable : (ds : List Decl) (kept : Kept) (d : Decl) → IsFound ds d → IsEvaluated ds kept → are_answerable kept (wanted_by d) ≡ true

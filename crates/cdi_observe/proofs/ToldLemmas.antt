@@ -1,8 +1,8 @@
 -- No question that a declaration asks is refused.
-use Rattle.cdi_observe.proofs.Common.{◌≡◌, Bool, true, false, cond, List, [], ◌∷◌, ◌++◌, map, Some, Ok, Err, refl, ap, ◌∙◌, AllByRecursion}
-use Rattle.cdi_observe.proofs.Common.{flat_map, false≢true, BeanDecl, Decl, BeanPlace, Refusal, find_bean, chain_told, has_place, places_of}
-use Rattle.cdi_observe.proofs.Common.{Key, All, ChainKey, asked_by, chains_by, events_by, wanted_by, asked_key, is_told, AskedKey, Mention}
-use Rattle.cdi_observe.proofs.Common.{EventOf, mentions, PointDecl, as_bean, event_in, key_of_point, points_of}
+use Rattle.cdi_observe.proofs.Common.{◌≡◌, Bool, true, cond, List, [], ◌∷◌, ◌++◌, map, Some, Ok, Err, refl, ap, AllByRecursion, flat_map}
+use Rattle.cdi_observe.proofs.Common.{false≢true, BeanDecl, Decl, BeanPlace, Refusal, find_bean, has_place, places_of, Key, All, ChainKey}
+use Rattle.cdi_observe.proofs.Common.{asked_by, chains_by, events_by, wanted_by, asked_key, is_told, AskedKey, Mention, EventOf, mentions}
+use Rattle.cdi_observe.proofs.Common.{PointDecl, as_bean, event_in, key_of_point, points_of, arith}
 use Rattle.std.proofs.Common.{is_ok}
 use Rattle.base_lists.proofs.Each.{all-append}
 use Rattle.cdi_model.specs.declared.decl.Decl.TheVariants as decls
@@ -10,8 +10,7 @@ use Rattle.cdi_observe.proofs.BeanPlaceLemmas.{has-each_place}
 use Rattle.cdi_observe.proofs.FoundLemmas.{all-lent, IsFound}
 
 ok-where : {X : Type 0} (has : Bool) (x : X) (refusal : Refusal) → has ≡ true → is_ok (cond has (Ok x) (Err refusal)) ≡ true
-ok-where true x refusal e = refl
-ok-where false x refusal e = absurd (false≢true e)
+ok-where t1 x refusal e = grind (arith, false≢true)
 
 module _ (ds : List Decl) where
   abbrev IsTold : Key → Type 0
@@ -20,10 +19,7 @@ module _ (ds : List Decl) where
   chains-told : (b : BeanDecl) → find_bean b.name ds ≡ Some b → (ps : List BeanPlace) → AllByRecursion (λ place. has_place b place ≡ true) ps
       → AllByRecursion IsTold (map (ChainKey b.name) ps)
   chains-told b found [] all = tt
-  chains-told b found (p ∷ ps) all = (
-    ap (λ o. is_ok (chain_told ds o p)) found ∙ ok-where (has_place b p) _ _ all.0,
-    chains-told b found ps all.1,
-  )
+  chains-told b found (p ∷ ps) all = grind (arith, chains-told b found ps all.1, all.0, all.1, ok-where)
 
   events-told : (named : List Mention) → AllByRecursion IsTold (flat_map event_in named)
   events-told [] = tt
