@@ -1,11 +1,7 @@
 -- Chains that go on, chains along edges turned round, and chains by texts that pass a test.
-use Rattle.std.proofs.Common.{◌≡◌, ℕ, zero, suc, Bool, true, ◌&&◌, List, filter, refl, sym, ◌∙◌, ap, subst}
-use Rattle.std.specs.Str.{bytes_eq}
-use Rattle.std.proofs.lemmas.Bool.{and_from, and_parts}
+use Rattle.cdi_circles.proofs.Common.{◌≡◌, ℕ, zero, suc, Bool, true, ◌&&◌, List, filter, refl, sym, ◌∙◌, ap, subst, bytes_eq, and_from}
+use Rattle.cdi_circles.proofs.Common.{and_parts, one_text, Chain, Steps, has, leads, among, LeadsOn}
 use Rattle.std.proofs.lemmas.Map.Views.{any-filter_same}
-use Rattle.base_numbers.proofs.Texts.{one_text}
-use Rattle.cdi_match.specs.Chain.{Chain, Steps, has, leads}
-use Rattle.cdi_circles.specs.Edges.{among, LeadsOn}
 
 abbrev pub Next : Type 0
 Next = List ℕ → List (List ℕ)

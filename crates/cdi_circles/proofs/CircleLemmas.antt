@@ -1,15 +1,11 @@
 -- What is found on circles, from one text and back.
-use Rattle.std.proofs.Common.{◌≡◌, ◌↔◌, ℕ, zero, suc, Bool, true, false, not, cond, ◌&&◌, ◌||◌, List, [], ◌∷◌, ◌++◌, refl}
-use Rattle.std.proofs.Common.{sym, ◌∙◌, ap, subst, inl, inr}
-use Rattle.std.specs.Str.{bytes_eq}
-use Rattle.std.specs.BTreeMap.{keys}
-use Rattle.std.proofs.Math.Bool.{and-true, or-false}
-use Rattle.std.proofs.lemmas.Bool.{and_right, both_ways, false_from_ne_true, false≢true, or_cases, or_right, true_from_ne_false}
-use Rattle.std.proofs.lemmas.List.Folds.{list_any-append}
-use Rattle.base_numbers.proofs.Texts.{one_text, same_text}
-use Rattle.cdi_match.specs.Chain.{Chain, Steps, has, leads}
-use Rattle.cdi_circles.specs.Circles.{Settles}
-use Rattle.cdi_circles.specs.Edges.{among, is_on_circle, next_in, Edges, IsTurned, LeadsOn}
+use Rattle.cdi_circles.proofs.Common.{◌≡◌, ◌↔◌, ℕ, zero, suc, Bool, true, false, not, cond, ◌&&◌, ◌||◌, List, [], ◌∷◌, ◌++◌, refl, sym, ◌∙◌}
+use Rattle.cdi_circles.proofs.Common.{ap, subst, inl, inr, bytes_eq, keys, or-false, both_ways, false_from_ne_true, false≢true, or_cases}
+use Rattle.cdi_circles.proofs.Common.{or_right, list_any-append, one_text, same_text, Chain, Steps, has, leads, among, is_on_circle}
+use Rattle.cdi_circles.proofs.Common.{next_in, Edges, LeadsOn}
+use Rattle.std.proofs.Math.Bool.{and-true}
+use Rattle.std.proofs.lemmas.Bool.{and_right, true_from_ne_false}
+use Rattle.cdi_circles.specs.{Circles.Settles, Edges.IsTurned}
 use Rattle.cdi_circles.proofs.ChainLemmas.{chain-then_on, chain-turned, chain_of, leads_on-around, leads_on-end, leads_on-lift}
 use Rattle.cdi_circles.proofs.ChainLemmas.{leads_on-then, leads_on-turned, PassAround, Turns}
 use Rattle.cdi_circles.proofs.EdgeLemmas.{circle_decides, leave_only, off_circle}

@@ -1,25 +1,14 @@
 -- What edges lead on, what a search that leaves no text has found, and which texts are on circles.
-use Rattle.std.proofs.Common.{◌≡◌, ◌↔◌, ℕ, Bool, true, false, cond, ◌||◌, List, [], ◌∷◌, length, refl}
-use Rattle.std.proofs.Common.{sym, ◌∙◌, ap, subst, arith, Vec, Global, Option, Some, None}
-use Rattle.std.specs.Bool.{Decides}
-use Rattle.std.specs.List.{flat_map}
-use Rattle.std.specs.BTreeMap.{is_at}
-use Rattle.std.specs.Map.{keys_of, lookup}
-use Rattle.std.specs.Option.{unwrap_or}
-use Rattle.std.specs.Str.{bytes_eq}
-use Rattle.std.proofs.lemmas.Bool.{and_parts, or_parts, or_left, or_right, false≢true, both_ways}
-use Rattle.std.proofs.lemmas.Bool.Decides.{Decides-at}
-use Rattle.std.proofs.lemmas.List.Folds.{list_any-append}
-use Rattle.std.proofs.lemmas.List.{length-map}
-use Rattle.base_numbers.proofs.Texts.{same_text, bytes_eq-turned}
-use Rattle.cdi_model.specs.Bytes.{byte_order}
-use Rattle.cdi_match.specs.Chain.{ChainFromOne, Circle, has, leads, LeaveOnly, reaches_from_one}
-use Rattle.cdi_match.specs.Search.{Adds, Closing, Within}
-use Rattle.cdi_match.proofs.Chains.{reaches_from_one_decides}
-use Rattle.cdi_match.proofs.Names.{at_name}
-use Rattle.cdi_match.proofs.SearchLemmas.{Closing-all, Closing-start}
-use Rattle.cdi_circles.specs.Edges.{among, is_on_circle, next_in, texts_in, Edges, LeadsOn}
-use Rattle.cdi_circles.specs.Search.{all_next}
+use Rattle.cdi_circles.proofs.Common.{◌≡◌, ◌↔◌, ℕ, Bool, true, false, cond, ◌||◌, List, [], ◌∷◌, length, refl, sym, ◌∙◌, ap, subst, arith}
+use Rattle.cdi_circles.proofs.Common.{Some, None, is_at, lookup, unwrap_or, bytes_eq, and_parts, or_left, or_right, false≢true, both_ways}
+use Rattle.cdi_circles.proofs.Common.{list_any-append, same_text, bytes_eq-turned, byte_order, has, leads, Within, at_name, among}
+use Rattle.cdi_circles.proofs.Common.{is_on_circle, next_in, texts_in, Edges, LeadsOn, all_next}
+use Rattle.std.proofs.Common.{Vec}
+use Rattle.std.proofs.Common.{Global, Option}
+use Rattle.std.specs.{Bool.Decides, List.flat_map, Map.keys_of}
+use Rattle.std.proofs.lemmas.{Bool.or_parts, Bool.Decides.Decides-at, List.length-map}
+use Rattle.cdi_match.specs.{Chain.ChainFromOne, Chain.Circle, Chain.LeaveOnly, Chain.reaches_from_one, Search.Adds, Search.Closing}
+use Rattle.cdi_match.proofs.{Chains.reaches_from_one_decides, SearchLemmas.Closing-all, SearchLemmas.Closing-start}
 use Rattle.cdi_circles.proofs.ChainLemmas.{has-filter}
 
 abbrev pub Entries : Type 0

@@ -1,20 +1,10 @@
 -- Edges turned round.
-use Rattle.std.proofs.Common.{◌≡◌, ℕ, Bool, true, false, cond, ◌&&◌, ◌||◌, List, [], ◌∷◌, ◌++◌, Some, refl, sym, ◌∙◌, ap}
-use Rattle.std.proofs.Common.{inl, inr}
-use Rattle.std.specs.BTreeMap.{get, is_at}
+use Rattle.cdi_circles.proofs.Common.{◌≡◌, ℕ, Bool, true, false, cond, ◌&&◌, ◌||◌, List, [], ◌∷◌, ◌++◌, Some, refl, sym, ◌∙◌, ap, inl, inr}
+use Rattle.cdi_circles.proofs.Common.{get, is_at, lookup, bytes_eq, and_from, and_parts, false≢true, or_cases, or_left, or_right, or-false}
+use Rattle.cdi_circles.proofs.Common.{list_any-append, one_text, bytes_eq-turned, byte_order, has, leads, at_name, Edges, next_in, texts_in}
 use Rattle.std.specs.List.{list_any, All}
-use Rattle.std.specs.Map.{lookup}
-use Rattle.std.specs.Str.{bytes_eq}
-use Rattle.std.proofs.lemmas.Bool.{and_from, and_parts, false≢true, or_cases, or_left, or_right}
-use Rattle.std.proofs.Math.Bool.{or-false}
-use Rattle.std.proofs.lemmas.List.Folds.{list_any-append}
 use Rattle.std.proofs.lemmas.List.Elements.{All-head, All-tail}
-use Rattle.base_numbers.proofs.Texts.{one_text, bytes_eq-turned}
-use Rattle.cdi_model.specs.Bytes.{byte_order}
-use Rattle.cdi_match.specs.Chain.{has, leads}
-use Rattle.cdi_match.proofs.Names.{at_name}
 use Rattle.cdi_circles.proofs.EdgeLemmas.{Entries}
-use Rattle.cdi_circles.specs.Edges.{Edges, next_in, texts_in}
 
 -- an entry has an edge from x to y
 abbrev pub leads_in : Entries → List ℕ → List ℕ → Bool

@@ -1,16 +1,11 @@
 -- One more edge among those that leave nodes.
-use Rattle.std.proofs.Common.{◌≡◌, ◌+◌, ◌-◌, ◌<◌, ℕ, zero, suc, nat_eq, List, [], ◌∷◌, ◌++◌, cond, get_or, length, map, set, inl, inr, refl, ap, sym, subst, ◌∙◌, arith}
+use Rattle.cdi_ways.proofs.Common.{◌≡◌, ◌+◌, ◌-◌, ◌<◌, ℕ, zero, suc, nat_eq, List, [], ◌∷◌, ◌++◌, cond, get_or, length, map, inl, inr, refl}
+use Rattle.cdi_ways.proofs.Common.{ap, sym, subst, ◌∙◌, arith, slice_get, eqb_tells, cases_lt, none-some, same_Some, at-front, at-joined}
+use Rattle.cdi_ways.proofs.Common.{Edge, at_node, Has, Leaves}
+use Rattle.std.proofs.Common.{set}
 use Rattle.std.proofs.Common.{get_or-set_other, get_or-set_same}
-use Rattle.std.specs.Borrow.{Bor}
-use Rattle.std.specs.List.{slice_get, sum_by}
-use Rattle.std.proofs.lemmas.Bool.Decides.{eqb_tells}
-use Rattle.std.proofs.lemmas.Bool.{cases_lt, eq-eqb}
-use Rattle.std.proofs.lemmas.List.{length-map, map-set}
-use Rattle.std.proofs.lemmas.List.Sums.{sum_by-set}
-use Rattle.std.proofs.lemmas.Option.{none-some, same_Some}
-use Rattle.base_lists.proofs.Places.{at-front, at-joined}
-use Rattle.cdi_ways.specs.declared.edge.Edge.{Edge}
-use Rattle.cdi_ways.specs.Leaving.{at_node, Has, Leaves}
+use Rattle.std.specs.{Borrow.Bor, List.sum_by}
+use Rattle.std.proofs.lemmas.{Bool.eq-eqb, List.length-map, List.map-set, List.Sums.sum_by-set}
 use Rattle.cdi_ways.proofs.ListLemmas.{at_second}
 
 abbrev pub AreRight : List Edge → (ℕ → List ℕ) → Type 0

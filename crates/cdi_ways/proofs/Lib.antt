@@ -1,3 +1,4 @@
+mod Common
 pub mod LeavingLemmas
 pub mod ListLemmas
 pub mod SearchLemmas

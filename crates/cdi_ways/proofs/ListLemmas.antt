@@ -1,8 +1,6 @@
 -- The elements of lists, by their places.
-use Rattle.std.proofs.Common.{◌≡◌, ◌⊎◌, ◌+◌, ◌<◌, ℕ, zero, suc, List, [], ◌∷◌, ◌++◌, map, length, Some, inl, inr, refl, ap, ◌∙◌, arith}
-use Rattle.std.specs.List.{slice_get}
-use Rattle.std.proofs.lemmas.Option.{none-some, same_Some}
-use Rattle.base_lists.proofs.Places.{at-joined}
+use Rattle.cdi_ways.proofs.Common.{◌≡◌, ◌+◌, ◌<◌, ℕ, zero, suc, List, [], ◌∷◌, ◌++◌, map, length, Some, inl, inr, ap, ◌∙◌, arith, slice_get}
+use Rattle.cdi_ways.proofs.Common.{none-some, same_Some, at-joined}
 
 -- ---- of two joined lists
 

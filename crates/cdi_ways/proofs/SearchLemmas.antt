@@ -1,17 +1,12 @@
 -- What the search keeps, and what it tells.
-use Rattle.std.proofs.Common.{◌≡◌, ◌≢◌, ◌⊎◌, ◌+◌, ◌≤◌, ◌<◌, ℕ, nat_eq, List, [], ◌∷◌, ◌++◌, cond, map, length, get_or, Option, Some, None, inl, inr, refl, ap, sym, subst, ◌∙◌, arith}
-use Rattle.std.specs.List.{slice_get}
-use Rattle.std.proofs.lemmas.Bool.{cases_lt}
-use Rattle.std.proofs.lemmas.Bool.Decides.{eqb_tells}
-use Rattle.std.proofs.lemmas.Option.{get_or_from_slice_get, none-some, same_Some, slice_get_within}
-use Rattle.base_lists.proofs.Places.{at-front}
-use Rattle.cdi_ways.specs.declared.edge.Edge.{Edge}
-use Rattle.cdi_ways.specs.declared.search.Step.{Step}
-use Rattle.cdi_ways.specs.Leaving.{AreLeaving, Has, Leaves}
-use Rattle.cdi_ways.specs.Search.{depth_of, step_along, AreFollowed, IsAfter, IsAt, IsFollowed, IsLed, IsLinked, IsSearch, IsWayTo, LeadsTo}
-use Rattle.cdi_ways.specs.Ways.{HasNoCircle, IsCircle, IsShortest, IsWay}
-use Rattle.cdi_ways.proofs.ListLemmas.{at_within}
-use Rattle.cdi_ways.proofs.LeavingLemmas.{AreRight}
+use Rattle.cdi_ways.proofs.Common.{◌≡◌, ◌⊎◌, ◌+◌, ◌≤◌, ◌<◌, ℕ, nat_eq, List, [], ◌∷◌, ◌++◌, cond, map, length, get_or, Option, Some, None}
+use Rattle.cdi_ways.proofs.Common.{inl, inr, refl, ap, sym, subst, ◌∙◌, arith, slice_get, cases_lt, eqb_tells, none-some, same_Some}
+use Rattle.cdi_ways.proofs.Common.{slice_get_within, at-front, Edge, Step, AreLeaving, Has, Leaves, depth_of, step_along, AreFollowed}
+use Rattle.cdi_ways.proofs.Common.{IsAfter, IsAt, IsFollowed, IsLed, IsSearch, IsWayTo, LeadsTo, IsWay}
+use Rattle.std.proofs.Common.{◌≢◌}
+use Rattle.std.proofs.lemmas.Option.{get_or_from_slice_get}
+use Rattle.cdi_ways.specs.{Search.IsLinked, Ways.HasNoCircle, Ways.IsCircle, Ways.IsShortest}
+use Rattle.cdi_ways.proofs.{ListLemmas.at_within, LeavingLemmas.AreRight}
 use Rattle.cdi_ways.proofs.StepLemmas.{after_more, all_followed_more, depth_positive, followed_more, leads_more, new_step, old_or_new, step_once, with_steps}
 
 -- ---- what is left

@@ -1,12 +1,8 @@
 -- Steps that are taken after others.
-use Rattle.std.proofs.Common.{◌≡◌, ◌⊎◌, ◌+◌, ◌≤◌, ℕ, List, ◌++◌, map, length, Option, Some, None, inl, inr, refl, ap, sym, ◌∙◌, arith}
-use Rattle.std.specs.List.{slice_get}
-use Rattle.std.proofs.lemmas.Option.{same_Some}
-use Rattle.base_lists.proofs.Places.{at-front, at-joined, at-map}
-use Rattle.cdi_ways.specs.declared.edge.Edge.{Edge}
-use Rattle.cdi_ways.specs.declared.search.Step.{Step}
-use Rattle.cdi_ways.specs.Leaving.{Has}
-use Rattle.cdi_ways.specs.Search.{step_along, depth_at, depth_of, IsAt, IsAfter, LeadsTo, IsFollowed, AreFollowed}
+use Rattle.cdi_ways.proofs.Common.{◌≡◌, ◌⊎◌, ◌+◌, ◌≤◌, ℕ, List, ◌++◌, map, length, Option, Some, None, inl, inr, refl, ap, sym, ◌∙◌, arith}
+use Rattle.cdi_ways.proofs.Common.{slice_get, same_Some, at-front, at-joined, Edge, Step, Has, step_along, depth_at, depth_of, IsAt}
+use Rattle.cdi_ways.proofs.Common.{IsAfter, LeadsTo, IsFollowed, AreFollowed}
+use Rattle.base_lists.proofs.Places.{at-map}
 use Rattle.cdi_ways.proofs.ListLemmas.{at_second, map_at}
 
 -- ---- one step

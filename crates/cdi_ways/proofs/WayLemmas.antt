@@ -1,13 +1,8 @@
 -- The way that ends with a step, read back.
-use Rattle.std.proofs.Common.{◌≡◌, ◌+◌, ◌<◌, ℕ, List, [], ◌∷◌, ◌++◌, reverse, length, Option, Some, None, IfSome, refl, sym, subst, arith}
-use Rattle.std.specs.List.{slice_get}
-use Rattle.std.specs.Option.{option_map, unwrap_or}
-use Rattle.std.proofs.lemmas.Option.{slice_get_within}
+use Rattle.cdi_ways.proofs.Common.{◌≡◌, ◌+◌, ◌<◌, ℕ, List, [], ◌∷◌, ◌++◌, reverse, length, Option, Some, None, IfSome, refl, sym, subst}
+use Rattle.cdi_ways.proofs.Common.{arith, slice_get, option_map, unwrap_or, slice_get_within, Edge, Step, IsAt, IsAfter, LeadsTo, IsLed}
+use Rattle.cdi_ways.proofs.Common.{IsWay}
 use Rattle.std.proofs.lemmas.List.{reverse-append}
-use Rattle.cdi_ways.specs.declared.edge.Edge.{Edge}
-use Rattle.cdi_ways.specs.declared.search.Step.{Step}
-use Rattle.cdi_ways.specs.Search.{IsAt, IsAfter, LeadsTo, IsLed}
-use Rattle.cdi_ways.specs.Ways.{IsWay}
 use Rattle.cdi_ways.proofs.StepLemmas.{leads_once}
 
 pub before_within : (steps : List Step) (i : ℕ) (o : Option ℕ) (depth : ℕ) → IsAfter steps i o depth → IfSome o (λ j. j < length steps)

@@ -1,10 +1,6 @@
-use Rattle.std.proofs.Common.{◌≡◌, [], sym, ap, ◌∙◌, arith}
-use Rattle.std.proofs.lemmas.Bool.{both_ways, false_from_ne_true, false≢true}
-use Rattle.std.proofs.lemmas.List.{nil_from_length}
-use Rattle.cdi_match.specs.Chain.{has}
-use Rattle.cdi_circles.specs.Circles.{is_found, is_unknown}
-use Rattle.cdi_circles.proofs.CircleLemmas.{in_front, Settles-begin, Settles-end}
-use Rattle.cdi_circles.proofs.EdgeLemmas.{circle_means}
+use Rattle.cdi_circles.proofs.Common.{◌≡◌, [], sym, ap, ◌∙◌, arith, both_ways, false_from_ne_true, false≢true, nil_from_length, has}
+use Rattle.cdi_circles.proofs.Common.{is_found, is_unknown}
+use Rattle.cdi_circles.proofs.{CircleLemmas.in_front, CircleLemmas.Settles-begin, CircleLemmas.Settles-end, EdgeLemmas.circle_means}
 use Rattle.cdi_circles.proofs.circles.on_circles.Goals as goal
 
 pub left-init : goal.left-init

@@ -1,6 +1,5 @@
-use Rattle.std.proofs.Common.{◌≡◌, true, ℕ, List, vec_len}
-use Rattle.cdi_match.specs.Chain.{has}
-use Rattle.cdi_circles.specs.Circles.{is_unknown, IsSettled}
+use Rattle.cdi_circles.proofs.Common.{◌≡◌, true, ℕ, List, vec_len, has, is_unknown}
+use Rattle.cdi_circles.specs.Circles.{IsSettled}
 use Rattle.cdi_circles.proofs.circles.on_circles.Given as goal
 
 abbrev pub invariant-left : goal.invariant-left

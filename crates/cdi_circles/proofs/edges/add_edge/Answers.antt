@@ -1,11 +1,5 @@
-use Rattle.std.proofs.Common.{◌∷◌, [], ◌++◌, Some, None, cond, ap, ◌∙◌}
-use Rattle.std.specs.BTreeMap.{get}
-use Rattle.std.specs.Str.{bytes_eq}
-use Rattle.cdi_model.specs.Bytes.{byte_order}
-use Rattle.cdi_match.proofs.Names.{at_name}
-use Rattle.cdi_circles.specs.Edges.{texts_in}
-use Rattle.cdi_circles.proofs.EdgeLemmas.{left_in, texts_in-put}
-use Rattle.cdi_circles.proofs.TurnLemmas.{edge_put}
+use Rattle.cdi_circles.proofs.Common.{◌∷◌, [], ◌++◌, Some, None, cond, ap, ◌∙◌, get, bytes_eq, byte_order, at_name, texts_in}
+use Rattle.cdi_circles.proofs.{EdgeLemmas.left_in, EdgeLemmas.texts_in-put, TurnLemmas.edge_put}
 use Rattle.cdi_circles.proofs.edges.add_edge.Goals as goal
 
 pub returns : goal.returns

@@ -1,7 +1,4 @@
-use Rattle.std.proofs.Common.{◌≡◌, ◌&&◌, ◌||◌, ℕ, List, take}
-use Rattle.std.specs.Str.{bytes_eq}
-use Rattle.cdi_match.specs.Chain.{has, leads}
-use Rattle.cdi_circles.specs.Edges.{next_in}
+use Rattle.cdi_circles.proofs.Common.{◌≡◌, ◌&&◌, ◌||◌, ℕ, List, take, bytes_eq, has, leads, next_in}
 use Rattle.cdi_circles.proofs.edges.add_turned.Given as goal
 
 abbrev pub invariant-loop-from : goal.invariant-loop-from

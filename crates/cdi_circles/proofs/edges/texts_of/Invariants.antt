@@ -1,5 +1,4 @@
-use Rattle.std.proofs.Common.{◌≡◌, ◌++◌}
-use Rattle.std.specs.BTreeMap.{keys}
+use Rattle.cdi_circles.proofs.Common.{◌≡◌, ◌++◌, keys}
 use Rattle.cdi_circles.proofs.edges.texts_of.Given as goal
 
 abbrev pub invariant-loop-node : goal.invariant-loop-node

@@ -1,7 +1,4 @@
-use Rattle.std.proofs.Common.{◌||◌, sym, ap, ◌∙◌}
-use Rattle.std.proofs.Math.Bool.{or-false}
-use Rattle.cdi_match.specs.Chain.{leads}
-use Rattle.cdi_circles.specs.Edges.{next_in}
+use Rattle.cdi_circles.proofs.Common.{◌||◌, sym, ap, ◌∙◌, or-false, leads, next_in}
 use Rattle.cdi_circles.proofs.TurnLemmas.{leads_in, leads_in-all}
 use Rattle.cdi_circles.proofs.edges.turned.Goals as goal
 

@@ -1,6 +1,4 @@
-use Rattle.std.proofs.Common.{◌≡◌, ◌||◌, ℕ, List}
-use Rattle.cdi_match.specs.Chain.{leads}
-use Rattle.cdi_circles.specs.Edges.{next_in}
+use Rattle.cdi_circles.proofs.Common.{◌≡◌, ◌||◌, ℕ, List, leads, next_in}
 use Rattle.cdi_circles.proofs.TurnLemmas.{leads_in}
 use Rattle.cdi_circles.proofs.edges.turned.Given as goal
 

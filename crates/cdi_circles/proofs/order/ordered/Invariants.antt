@@ -1,5 +1,4 @@
-use Rattle.std.specs.BTreeMap.{keys}
-use Rattle.cdi_match.specs.Search.{Within}
+use Rattle.cdi_circles.proofs.Common.{keys, Within}
 use Rattle.cdi_circles.proofs.order.ordered.Given as goal
 
 abbrev pub invariant-loop-node : goal.invariant-loop-node

@@ -1,4 +1,4 @@
-use Rattle.std.proofs.Common.{◌≡◌, ◌+◌, length, vec_len}
+use Rattle.cdi_circles.proofs.Common.{◌≡◌, ◌+◌, length, vec_len}
 use Rattle.cdi_circles.proofs.order.plan.Given as goal
 
 abbrev pub invariant-loop-node : goal.invariant-loop-node

@@ -1,10 +1,5 @@
-use Rattle.std.proofs.Common.{arith}
-use Rattle.std.specs.BTreeSet.{contains}
-use Rattle.std.proofs.lemmas.List.{nil_from_length}
-use Rattle.cdi_model.specs.Bytes.{byte_order}
-use Rattle.cdi_match.proofs.SearchLemmas.{at_end, Closing-step, work_less}
-use Rattle.cdi_circles.specs.Edges.{among, next_in}
-use Rattle.cdi_circles.specs.Search.{all_next}
+use Rattle.cdi_circles.proofs.Common.{arith, contains, nil_from_length, byte_order, at_end, among, next_in, all_next}
+use Rattle.cdi_match.proofs.SearchLemmas.{Closing-step, work_less}
 use Rattle.cdi_circles.proofs.EdgeLemmas.{Closing-begin, among_within, found-all}
 use Rattle.cdi_circles.proofs.search.reached.Goals as goal
 

@@ -1,6 +1,4 @@
-use Rattle.std.specs.BTreeSet.{contains}
-use Rattle.cdi_model.specs.Bytes.{byte_order}
-use Rattle.cdi_circles.specs.Edges.{among, next_in}
+use Rattle.cdi_circles.proofs.Common.{contains, byte_order, among, next_in}
 use Rattle.cdi_circles.specs.Search.{IsClosing, work_of}
 use Rattle.cdi_circles.proofs.search.reached.Given as goal
 

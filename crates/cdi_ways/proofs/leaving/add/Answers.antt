@@ -1,6 +1,5 @@
-use Rattle.std.proofs.Common.{◌<◌, ◌++◌, ◌∷◌, [], length, ap, sym, ◌∙◌, arith}
+use Rattle.cdi_ways.proofs.Common.{◌<◌, ◌++◌, ◌∷◌, [], length, ap, sym, ◌∙◌, arith, leaving_at}
 use Rattle.std.proofs.lemmas.List.{get_or-map}
-use Rattle.cdi_ways.specs.Leaving.{leaving_at}
 use Rattle.cdi_ways.proofs.LeavingLemmas.{more_at, set_mapped}
 use Rattle.cdi_ways.proofs.leaving.add.Goals as goal
 

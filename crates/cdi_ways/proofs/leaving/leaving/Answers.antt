@@ -1,6 +1,4 @@
-use Rattle.std.proofs.Common.{refl, arith}
-use Rattle.std.proofs.lemmas.Option.{slice_get-get_or, slice_get_within}
-use Rattle.cdi_ways.specs.Leaving.{leaving_at, Leaves}
+use Rattle.cdi_ways.proofs.Common.{refl, arith, slice_get-get_or, slice_get_within, leaving_at, Leaves}
 use Rattle.cdi_ways.proofs.LeavingLemmas.{put_right, put_whole}
 use Rattle.cdi_ways.proofs.leaving.leaving.Goals as goal
 

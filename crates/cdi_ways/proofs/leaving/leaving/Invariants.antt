@@ -1,4 +1,4 @@
-use Rattle.cdi_ways.specs.Leaving.{leaving_at}
+use Rattle.cdi_ways.proofs.Common.{leaving_at}
 use Rattle.cdi_ways.proofs.LeavingLemmas.{AreRight, AreWholeBelow}
 use Rattle.cdi_ways.proofs.leaving.leaving.Given as goal
 

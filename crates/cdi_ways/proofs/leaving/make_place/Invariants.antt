@@ -1,5 +1,4 @@
-use Rattle.std.proofs.Common.{◌≡◌, ◌+◌, ◌-◌, ℕ, vec_len}
-use Rattle.cdi_ways.specs.Leaving.{leaving_at}
+use Rattle.cdi_ways.proofs.Common.{◌≡◌, ◌+◌, ◌-◌, ℕ, vec_len, leaving_at}
 use Rattle.cdi_ways.proofs.leaving.make_place.Given as goal
 
 abbrev pub invariant-places : goal.invariant-places

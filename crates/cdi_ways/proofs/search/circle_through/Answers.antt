@@ -1,11 +1,7 @@
-use Rattle.std.proofs.Common.{◌≡◌, ◌+◌, ◌<◌, ℕ, List, get_or, length, length-append, vec_len, Some, ap, sym, subst, ◌∙◌, arith}
-use Rattle.std.specs.List.{slice_get}
+use Rattle.cdi_ways.proofs.Common.{◌≡◌, ◌+◌, ◌<◌, ℕ, List, get_or, length, length-append, vec_len, Some, ap, sym, subst, ◌∙◌, arith}
+use Rattle.cdi_ways.proofs.Common.{slice_get, Edge, Step, left_at, IsAt, IsSearch, IsWayTo}
 use Rattle.std.proofs.lemmas.Option.{slice_get_read}
-use Rattle.cdi_ways.specs.declared.edge.Edge.{Edge}
 use Rattle.cdi_ways.specs.declared.search.Search.{Search}
-use Rattle.cdi_ways.specs.declared.search.Step.{Step}
-use Rattle.cdi_ways.specs.Leaving.{left_at}
-use Rattle.cdi_ways.specs.Search.{IsAt, IsSearch, IsWayTo}
 use Rattle.cdi_ways.proofs.SearchLemmas.{circle_found, edge_read, no_circle, search_next, shortest_found}
 use Rattle.cdi_ways.proofs.search.circle_through.Goals as goal
 

@@ -1,5 +1,5 @@
-use Rattle.std.proofs.Common.{◌-◌, ◌≤◌, vec_len}
-use Rattle.cdi_ways.specs.Search.{edges_of, SearchesFrom}
+use Rattle.cdi_ways.proofs.Common.{◌-◌, ◌≤◌, vec_len, edges_of}
+use Rattle.cdi_ways.specs.Search.{SearchesFrom}
 use Rattle.cdi_ways.proofs.search.circle_through.Given as goal
 
 abbrev pub invariant-taken : goal.invariant-taken

@@ -1,4 +1,4 @@
-use Rattle.std.proofs.Common.{◌≡◌, map, take}
+use Rattle.cdi_ways.proofs.Common.{◌≡◌, map, take}
 use Rattle.cdi_ways.proofs.search.lent.Given as goal
 
 abbrev pub invariant-loop-positions : goal.invariant-loop-positions

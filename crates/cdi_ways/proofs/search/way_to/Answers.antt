@@ -1,12 +1,7 @@
-use Rattle.std.proofs.Common.{◌+◌, ◌<◌, ℕ, List, reverse, get_or, length, length-append, None, IfSome, ap, sym, subst, ◌∙◌, refl, arith}
-use Rattle.std.specs.Option.{option_map, unwrap_or}
+use Rattle.cdi_ways.proofs.Common.{◌+◌, ◌<◌, ℕ, List, reverse, get_or, length, length-append, None, IfSome, ap, sym, subst, ◌∙◌, refl}
+use Rattle.cdi_ways.proofs.Common.{arith, option_map, unwrap_or, slice_get-get_or, Step, depth_at, IsAfter, IsAt, LeadsTo, IsWay}
 use Rattle.std.proofs.lemmas.List.{length-reverse}
-use Rattle.std.proofs.lemmas.Option.{slice_get-get_or}
-use Rattle.cdi_ways.specs.declared.search.Step.{Step}
-use Rattle.cdi_ways.specs.Search.{depth_at, IsAfter, IsAt, LeadsTo}
-use Rattle.cdi_ways.specs.Ways.{IsWay}
-use Rattle.cdi_ways.proofs.StepLemmas.{depth_more}
-use Rattle.cdi_ways.proofs.WayLemmas.{before_less, before_within, way_back}
+use Rattle.cdi_ways.proofs.{StepLemmas.depth_more, WayLemmas.before_less, WayLemmas.before_within, WayLemmas.way_back}
 use Rattle.cdi_ways.proofs.search.way_to.Goals as goal
 
 -- the step that is read at a place

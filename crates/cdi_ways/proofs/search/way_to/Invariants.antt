@@ -1,8 +1,5 @@
-use Rattle.std.proofs.Common.{◌≡◌, ◌+◌, ◌<◌, ℕ, List, reverse, length, Some, IfSome}
-use Rattle.std.specs.Option.{option_map, unwrap_or}
-use Rattle.cdi_ways.specs.declared.edge.Edge.{Edge}
-use Rattle.cdi_ways.specs.Search.{depth_at, IsLed, LeadsTo}
-use Rattle.cdi_ways.specs.Ways.{IsWay}
+use Rattle.cdi_ways.proofs.Common.{◌≡◌, ◌+◌, ◌<◌, ℕ, List, reverse, length, Some, IfSome, option_map, unwrap_or, Edge, depth_at, IsLed}
+use Rattle.cdi_ways.proofs.Common.{LeadsTo, IsWay}
 use Rattle.cdi_ways.proofs.search.way_to.Given as goal
 
 abbrev pub invariant-back : goal.invariant-back

@@ -1,8 +1,6 @@
-use Rattle.std.proofs.Common.{ℕ, List, true, false, not, cond, ◌&&◌, ◌||◌, sym, ap, ◌∙◌}
-use Rattle.std.specs.Str.{bytes_eq}
-use Rattle.cdi_match.specs.Chain.{has}
-use Rattle.cdi_match.proofs.Names.{at_name, has-by_order}
-use Rattle.cdi_circles.specs.Circles.{is_found, is_unknown}
+use Rattle.cdi_circles.proofs.Common.{ℕ, List, true, false, not, cond, ◌&&◌, ◌||◌, sym, ap, ◌∙◌, bytes_eq, has, at_name, is_found}
+use Rattle.cdi_circles.proofs.Common.{is_unknown}
+use Rattle.cdi_match.proofs.Names.{has-by_order}
 use Rattle.cdi_circles.proofs.CircleLemmas.{put_in, taken_out}
 use Rattle.cdi_circles.proofs.circles.Circles.add.Goals as goal
 

@@ -1,8 +1,4 @@
-use Rattle.std.proofs.Common.{◌≡◌, ◌&&◌, ◌||◌, not, ℕ, List}
-use Rattle.std.specs.BTreeSet.{contains}
-use Rattle.cdi_match.specs.Chain.{has}
-use Rattle.cdi_model.specs.Bytes.{byte_order}
-use Rattle.cdi_circles.specs.Circles.{is_found, is_unknown}
+use Rattle.cdi_circles.proofs.Common.{◌≡◌, ◌&&◌, ◌||◌, not, ℕ, List, contains, has, byte_order, is_found, is_unknown}
 use Rattle.cdi_circles.proofs.circles.Circles.add.Given as goal
 
 abbrev pub invariant-loop-node : goal.invariant-loop-node

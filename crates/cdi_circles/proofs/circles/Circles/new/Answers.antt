@@ -1,9 +1,4 @@
-use Rattle.std.proofs.Common.{true, cond, ◌||◌, sym, ap, ◌∙◌}
-use Rattle.std.specs.BTreeSet.{contains}
-use Rattle.std.specs.Str.{bytes_eq}
-use Rattle.cdi_match.specs.Chain.{has}
-use Rattle.cdi_match.proofs.Names.{at_name}
-use Rattle.cdi_model.specs.Bytes.{byte_order}
+use Rattle.cdi_circles.proofs.Common.{true, cond, ◌||◌, sym, ap, ◌∙◌, contains, bytes_eq, has, at_name, byte_order}
 use Rattle.cdi_circles.proofs.CircleLemmas.{put_in}
 use Rattle.cdi_circles.proofs.circles.Circles.new.Goals as goal
 

@@ -1,9 +1,5 @@
-use Rattle.std.proofs.Common.{◌≡◌, ℕ, List, true, false, not, cond, ◌&&◌, sym, ap, ◌∙◌}
-use Rattle.std.specs.BTreeSet.{contains}
-use Rattle.std.proofs.lemmas.Result.{IfOk-weaker}
-use Rattle.cdi_match.proofs.Names.{at_name}
-use Rattle.cdi_model.specs.Bytes.{byte_order}
-use Rattle.cdi_circles.specs.Circles.{is_found, is_unknown}
+use Rattle.cdi_circles.proofs.Common.{◌≡◌, ℕ, List, true, false, not, cond, ◌&&◌, sym, ap, ◌∙◌, contains, IfOk-weaker, at_name, byte_order}
+use Rattle.cdi_circles.proofs.Common.{is_found, is_unknown}
 use Rattle.cdi_circles.proofs.CircleLemmas.{circle_around, known_itself, known_still, Settles-more}
 use Rattle.cdi_circles.proofs.circles.Circles.settle.Goals as goal
 

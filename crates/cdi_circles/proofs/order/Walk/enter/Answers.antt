@@ -1,11 +1,6 @@
-use Rattle.std.proofs.Common.{◌+◌, length, sym, ap, ◌∙◌, arith}
-use Rattle.std.specs.BTreeMap.{is_at}
-use Rattle.std.specs.List.{sum_by}
-use Rattle.std.specs.Map.{values_of}
-use Rattle.std.specs.Option.{option_map, unwrap_or}
+use Rattle.cdi_circles.proofs.Common.{◌+◌, length, sym, ap, ◌∙◌, arith, is_at, unwrap_or, IfOk-weaker, byte_order}
+use Rattle.std.specs.{List.sum_by, Map.values_of, Option.option_map}
 use Rattle.std.proofs.lemmas.Map.Entries.{sum_by-remove_entry}
-use Rattle.std.proofs.lemmas.Result.{IfOk-weaker}
-use Rattle.cdi_model.specs.Bytes.{byte_order}
 use Rattle.cdi_circles.proofs.order.Walk.enter.Goals as goal
 
 pub returns-clause-less : goal.returns-clause-less

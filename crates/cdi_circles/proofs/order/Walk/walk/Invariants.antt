@@ -1,4 +1,4 @@
-use Rattle.cdi_match.specs.Search.{Within}
+use Rattle.cdi_circles.proofs.Common.{Within}
 use Rattle.cdi_circles.specs.Order.{work_of}
 use Rattle.cdi_circles.proofs.order.Walk.walk.Given as goal
 

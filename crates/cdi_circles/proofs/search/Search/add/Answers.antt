@@ -1,11 +1,8 @@
-use Rattle.std.proofs.Common.{ℕ, Bool, List, [], ◌∷◌, ◌++◌, true, not, cond, refl, ap, sym, ◌∙◌}
-use Rattle.std.specs.BTreeSet.{contains}
-use Rattle.std.specs.Str.{bytes_eq}
+use Rattle.cdi_circles.proofs.Common.{ℕ, Bool, List, [], ◌∷◌, ◌++◌, true, not, cond, refl, ap, sym, ◌∙◌, contains, bytes_eq, at_end}
+use Rattle.cdi_circles.proofs.Common.{at_name, byte_order}
 use Rattle.std.proofs.lemmas.Bool.{not-true, not-false}
-use Rattle.cdi_match.proofs.SearchLemmas.{at_end, Adds-new, Adds-again}
-use Rattle.cdi_match.proofs.Names.{at_name}
+use Rattle.cdi_match.proofs.SearchLemmas.{Adds-new, Adds-again}
 use Rattle.cdi_circles.proofs.search.Search.add.Goals as goal
-use Rattle.cdi_model.specs.Bytes.{byte_order}
 
 pub returns-in_ok-push : goal.returns-in_ok-push
 returns-in_ok-push c =

@@ -1,6 +1,4 @@
-use Rattle.std.proofs.Common.{filter, take}
-use Rattle.std.specs.BTreeSet.{contains}
-use Rattle.cdi_model.specs.Bytes.{byte_order}
+use Rattle.cdi_circles.proofs.Common.{filter, take, contains, byte_order}
 use Rattle.cdi_circles.specs.Search.{Finds}
 use Rattle.cdi_circles.proofs.search.Search.add_within.Given as goal
 

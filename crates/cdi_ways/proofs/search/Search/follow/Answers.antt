@@ -1,4 +1,5 @@
-use Rattle.std.proofs.Common.{◌<◌, length, refl, arith, rules}
+use Rattle.cdi_ways.proofs.Common.{◌<◌, length, refl, arith}
+use Rattle.std.proofs.Common.{rules}
 use Rattle.cdi_ways.proofs.LeavingLemmas.{fewer_left, set_mapped}
 use Rattle.cdi_ways.proofs.search.Search.follow.Goals as goal
 

@@ -1,6 +1,5 @@
-use Rattle.std.proofs.Common.{◌≡◌, ◌+◌, ◌-◌, ◌++◌, length, [], ℕ, nat_eq, map, take, if◌then◌else◌}
-use Rattle.cdi_ways.specs.Leaving.{left_at}
-use Rattle.cdi_ways.specs.Search.{edges_of, step_along}
+use Rattle.cdi_ways.proofs.Common.{◌≡◌, ◌+◌, ◌-◌, ◌++◌, length, [], ℕ, nat_eq, map, take, left_at, edges_of, step_along}
+use Rattle.std.proofs.Common.{if◌then◌else◌}
 use Rattle.cdi_ways.proofs.search.Search.follow.Given as goal
 
 abbrev pub invariant-loop-edge : goal.invariant-loop-edge

@@ -1,8 +1,5 @@
-use Rattle.std.proofs.Common.{None, ap, sym, subst, ◌∙◌}
-use Rattle.cdi_ways.specs.Leaving.{at_node, left_at, AreLeaving}
-use Rattle.cdi_ways.specs.Search.{IsSearch}
-use Rattle.cdi_ways.proofs.StepLemmas.{with_steps}
-use Rattle.cdi_ways.proofs.SearchLemmas.{search_begun}
+use Rattle.cdi_ways.proofs.Common.{None, ap, sym, subst, ◌∙◌, at_node, left_at, AreLeaving, IsSearch}
+use Rattle.cdi_ways.proofs.{StepLemmas.with_steps, SearchLemmas.search_begun}
 use Rattle.cdi_ways.proofs.search.Search.new.Goals as goal
 
 pub returns : goal.returns
