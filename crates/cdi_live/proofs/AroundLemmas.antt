@@ -1,13 +1,12 @@
 -- The interceptors around a place are among those that its chain sees.
-use Rattle.cdi_live.proofs.Common.{◌≡◌, Bool, true, false, not, ◌&&◌, List, [], ◌∷◌, length, map, filter, nat_eq, is_some, refl, sym, ap}
-use Rattle.cdi_live.proofs.Common.{◌∙◌, list_all, list_any, and_from, and_parts, false≢true, or_left, Decl, InterceptorDecl, BeanPlace}
-use Rattle.cdi_live.proofs.Common.{Qual, uses_one, in_text_order, chain_by, in_order, part_for, surrounds, is_seen, names_around}
-use Rattle.cdi_live.proofs.Common.{shares_type, any-in_text_order}
+use Rattle.cdi_live.proofs.Common.{◌≡◌, true, not, ◌&&◌, List, [], ◌∷◌, length, map, filter, nat_eq, is_some, refl, sym, ap, ◌∙◌, list_all}
+use Rattle.cdi_live.proofs.Common.{list_any, false≢true, Decl, InterceptorDecl, BeanPlace, Qual, uses_one, in_text_order, chain_by}
+use Rattle.cdi_live.proofs.Common.{in_order, part_for, surrounds, is_seen, names_around, any-in_text_order, arith}
 use Rattle.std.proofs.lemmas.List.Elements.{filter_agree}
 use Rattle.base_lists.proofs.Filters.{filter-both}
 use Rattle.cdi_model.specs.declared.decl.UseKind.TheVariants as use_kinds
 use Rattle.cdi_match.specs.Covering.{covers}
-use Rattle.cdi_intercept.specs.Chains.{binds, covered_in}
+use Rattle.cdi_intercept.specs.Chains.{covered_in}
 use Rattle.cdi_intercept.proofs.SeenLemmas.{covered-used}
 
 -- one that binds shares a type
@@ -15,30 +14,12 @@ first-shared : (ds : List Decl) (set bindings : List Qual) → (not (nat_eq (len
     ≡ true
     → list_any (λ u. uses_one set u.name) bindings ≡ true
 first-shared ds set [] h = absurd (false≢true h)
-first-shared ds set (u ∷ us) h =
-    let all = (and_parts (not (nat_eq (length (u ∷ us)) 0)) (list_all (covered_in ds set) (u ∷ us)) h).1 in
-    or_left (uses_one set u.name) (list_any (λ v. uses_one set v.name) us)
-    (covered-used ds set u (and_parts (covered_in ds set u) (list_all (covered_in ds set) us) all).0)
+first-shared ds set (u ∷ us) h = grind (arith, u.name, covered-used)
 
 -- so what surrounds a place is seen there
 seen-too : (ds : List Decl) (set : List Qual) (place : BeanPlace) (i : InterceptorDecl)
     → (is_seen set place i && surrounds ds set place i) ≡ surrounds ds set place i
-seen-too ds set place i = by (surrounds ds set place i) refl
-  where
-    and-true : (b : Bool) → (b && true) ≡ b
-    and-true true = refl
-    and-true false = refl
-
-    and-false : (b : Bool) → (b && false) ≡ false
-    and-false true = refl
-    and-false false = refl
-
-    by : (b : Bool) → surrounds ds set place i ≡ b → (is_seen set place i && b) ≡ b
-    by false e = and-false (is_seen set place i)
-    by true e =
-        let parts = and_parts (is_some (part_for place i)) (binds ds set i) e in
-        and-true (is_seen set place i)
-        ∙ and_from (is_some (part_for place i)) (shares_type set i) parts.0 (first-shared ds set i.bindings parts.1)
+seen-too ds set place i = grind (arith, i.bindings, first-shared)
 
 -- the order of the bindings does not count
 any-order : (ds : List Decl) (set us : List Qual) → list_all (covered_in ds (in_text_order set)) us ≡ list_all (covered_in ds set) us

@@ -1,11 +1,10 @@
 -- A choice, or who observes an event, is asked for after edits by a declaration that is not edited, or by one that is.
 use Rattle.cdi_live.proofs.Common.{not-true, any-same, same-bool, ◌≡◌, Bool, true, false, not, ◌&&◌, List, [], ◌∷◌, refl, sym, ap, ◌∙◌, inl}
-use Rattle.cdi_live.proofs.Common.{inr, list_any, and_from, and_parts, false≢true, or_cases, or_left, or_right, Decl, Qual, ℕ, ◌||◌}
-use Rattle.cdi_live.proofs.Common.{flat_map, Option, Some, None, option_map_or, list_any-append, Edit, DeclKey, key_of, kind_of}
-use Rattle.cdi_live.proofs.Common.{name_of_decl, find_decl, AreDistinct, edited_all, edited_keys, is_among, mentions, Mention, PointOf}
-use Rattle.cdi_live.proofs.Common.{edits_keep_decl, key_exact, asks_for, asks_in, ChoiceKey, is_wanted, key_of_point, points_of, IsPresent}
-use Rattle.cdi_live.proofs.Common.{all_present, found_any, witness, is_asked_after}
-use Rattle.cdi_model.specs.DeclKey.{same_key}
+use Rattle.cdi_live.proofs.Common.{inr, list_any, and_from, and_parts, false≢true, or_cases, or_left, or_right, Decl, Qual, ℕ, flat_map}
+use Rattle.cdi_live.proofs.Common.{Option, Some, None, option_map_or, list_any-append, Edit, DeclKey, key_of, kind_of, name_of_decl}
+use Rattle.cdi_live.proofs.Common.{find_decl, AreDistinct, edited_all, edited_keys, is_among, mentions, Mention, PointOf, edits_keep_decl}
+use Rattle.cdi_live.proofs.Common.{key_exact, asks_for, asks_in, ChoiceKey, is_wanted, key_of_point, points_of, IsPresent, all_present}
+use Rattle.cdi_live.proofs.Common.{found_any, witness, is_asked_after, arith, same_key}
 use Rattle.cdi_index.specs.{declared.asked.Question.Question, Asked.asks_at, Asked.is_asked, Asked.is_asked_by}
 use Rattle.cdi_index.specs.declared.asked.Question.TheVariants as questions
 use Rattle.cdi_observe.specs.Keys.{same_key as same_question}
@@ -30,20 +29,13 @@ any-among p (l ∷ keys) k among h = elim (or_cases (same_key l k) (is_among key
 module _ (t : List ℕ) (us : List Qual) where
   -- a declaration asks where a point of it does
   at-point : (m : Mention) → list_any (λ point. same_question (ChoiceKey t us) (key_of_point point)) (point_named m) ≡ asks_in questions.Choice t us m
-  at-point (PointOf place point) = or-none (asks_in questions.Choice t us (PointOf place point))
-    where
-      or-none : (b : Bool) → (b || false) ≡ b
-      or-none true = refl
-      or-none false = refl
+  at-point (PointOf place point) = grind arith
   at-point other = refl
 
   at-points : (ms : List Mention)
       → list_any (λ point. same_question (ChoiceKey t us) (key_of_point point)) (flat_map point_named ms) ≡ list_any (asks_in questions.Choice t us) ms
   at-points [] = refl
-  at-points (m ∷ ms) =
-      list_any-append (λ point. same_question (ChoiceKey t us) (key_of_point point)) (point_named m) (flat_map point_named ms)
-      ∙ ap (λ b. b || list_any (λ point. same_question (ChoiceKey t us) (key_of_point point)) (flat_map point_named ms)) (at-point m)
-      ∙ ap (λ b. asks_in questions.Choice t us m || b) (at-points ms)
+  at-points (m ∷ ms) = grind (arith, at-points ms, list_any-append, at-point)
 
   asks-is : (d : Decl) → list_any (λ point. same_question (ChoiceKey t us) (key_of_point point)) (points_of d) ≡ asks_for questions.Choice t us d
   unfolding asks_for

@@ -5,10 +5,10 @@ use Rattle.cdi_live.proofs.Common.{Some, None, list_any-append, mentions, Mentio
 use Rattle.cdi_live.proofs.Common.{option_to_list, BeanDecl, ObserverDecl, of_bindings, of_parts, of_point, name_of_use, has, own_records}
 use Rattle.cdi_live.proofs.Common.{class_bindings, Effective, Word, same_word, word_at, words_have, words_named, words_named_in}
 use Rattle.cdi_live.proofs.Common.{words_of_bindings, words_of_observer, words_of_record, words_of_uses, words_by, among-named}
-use Rattle.cdi_live.proofs.Common.{own_bindings, words-append}
+use Rattle.cdi_live.proofs.Common.{own_bindings, words-append, arith}
 use Rattle.std.specs.List.{find}
 use Rattle.cdi_model.specs.Mentions.{BodyOf, CallOf, MethodOf, StereotypeOf, UseOf, of_attributes, of_disposer, of_method, of_observer}
-use Rattle.cdi_model.specs.Mentions.{of_part, of_producer, of_qualifiers, part_place_of}
+use Rattle.cdi_model.specs.Mentions.{of_part, of_producer}
 use Rattle.cdi_model.specs.declared.decl.{MethodDecl.MethodDecl, ProducerDecl.ProducerDecl}
 use Rattle.cdi_model.specs.declared.decl.Decl.TheVariants as decls
 use Rattle.cdi_model.specs.declared.decl.UseKind.TheVariants as uses
@@ -80,22 +80,10 @@ module _ (n : List ℕ) where
   in-method m h = any-left p (of_bindings m.bindings) (of_part (parts.Method m.name) [] m.part) (of-bindings m.bindings n ∙ h)
 
   in-producer : (r : ProducerDecl) → has (map name_of_use r.bindings) n ≡ true → list_any p (of_producer r) ≡ true
-  in-producer r h =
-      let params : List Mention = flat_map (of_point (points.Producer r.name)) r.params in
-      let part : List Mention = of_part (part_place_of r) r.params r.part in
-      let attributes : List Mention = TypeIn types.Produced r.product_type ∷ of_attributes r.attributes in
-      any-left p (attributes ++ of_bindings r.bindings ++ params) part
-      (any-left p (attributes ++ of_bindings r.bindings) params
-      (any-right p attributes (of_bindings r.bindings) (of-bindings r.bindings n ∙ h)))
+  in-producer r h = grind (arith, r.name, r.params, r.part, r.product_type, r.attributes, r.bindings, any-left, any-right, of-bindings)
 
   in-observer : (o : ObserverDecl) → has (map name_of_use o.bindings) n ≡ true → list_any p (of_observer o) ≡ true
-  in-observer o h =
-      let params : List Mention = flat_map (of_point (points.Observer o.name)) o.params in
-      let part : List Mention = of_part (parts.Observer o.name) o.params o.part in
-      let quals : List Mention = TypeIn types.Observed o.event_type ∷ of_qualifiers o.qualifiers in
-      any-left p (quals ++ of_bindings o.bindings ++ params) part
-      (any-left p (quals ++ of_bindings o.bindings) params
-      (any-right p quals (of_bindings o.bindings) (of-bindings o.bindings n ∙ h)))
+  in-observer o h = grind (arith, o.name, o.params, o.part, o.event_type, o.qualifiers, o.bindings, any-left, any-right, of-bindings)
 
   module _ (b : BeanDecl) where
     -- what a bean names before its methods

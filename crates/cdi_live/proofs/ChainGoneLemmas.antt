@@ -1,12 +1,11 @@
 -- Of the kept chains exactly those are gone that are not wanted any more, or are touched.
 use Rattle.cdi_live.proofs.Common.{same-bool, ◌≡◌, Bool, true, false, not, ◌&&◌, List, [], ◌∷◌, refl, sym, ap, ◌∙◌, inl, inr, list_any}
-use Rattle.cdi_live.proofs.Common.{bytes_eq, and_from, and_parts, false≢true, or_cases, or_left, or_right, Decl, BeanPlace, ℕ, ◌||◌, Edit}
-use Rattle.cdi_live.proofs.Common.{DeclKey, AreDistinct, edited_all, edited_keys, is_wanted, subst, bytes_decides, Tells, parts_under}
-use Rattle.cdi_live.proofs.Common.{parts-kept, same_place, ChainKey, same_place-decides, is_touched, goes, is_kept_chain, ArePlaces, Chains}
-use Rattle.cdi_live.proofs.Common.{is_chain_suspect, IsBetween, Sides}
-use Rattle.cdi_live.proofs.AskedLemmas.{any-elim}
+use Rattle.cdi_live.proofs.Common.{bytes_eq, and_from, and_parts, false≢true, or_cases, or_left, or_right, Decl, BeanPlace, ℕ, Edit}
+use Rattle.cdi_live.proofs.Common.{DeclKey, AreDistinct, edited_all, edited_keys, is_wanted, bytes_decides, Tells, parts_under, parts-kept}
+use Rattle.cdi_live.proofs.Common.{same_place, ChainKey, same_place-decides, is_touched, goes, is_kept_chain, ArePlaces, Chains}
+use Rattle.cdi_live.proofs.Common.{is_chain_suspect, IsBetween, Sides, arith}
+use Rattle.cdi_live.proofs.{AskedLemmas.any-elim, WantedPlaceLemmas.wanted-place}
 use Rattle.cdi_live.proofs.ChainSuspectLemmas.{chain-same, place-same}
-use Rattle.cdi_live.proofs.WantedPlaceLemmas.{wanted-place}
 
 -- the chain is among the kept ones of some classes, and goes
 abbrev goes_by_class : List Decl → List Decl → Chains → List (List ℕ) → List ℕ → BeanPlace → Bool
@@ -25,10 +24,7 @@ module _ (edits : List Edit) (ds : List Decl) (told : List DeclKey) (distinct : 
 
   -- one of a class that is not suspect does not go
   spared : is_chain_suspect ds es told class ≡ false → goes ds es class place ≡ false
-  spared clear =
-      ap (λ b. not b || is_touched ds es (ChainKey class place)) (place-same edits ds told distinct apart tells class clear place)
-      ∙ ap (λ b. not b || is_touched ds es (ChainKey class place)) (sym (wanted-place ds distinct class place) ∙ wanted)
-      ∙ chain-same edits ds told distinct apart tells class clear place
+  spared clear = grind (arith, place-same, wanted-place, chain-same)
 
   by-class : (classes : List (List ℕ)) → ((n : List ℕ) → list_any (bytes_eq n) classes ≡ is_chain_suspect ds es told n)
       → goes_by_class ds es m classes class place ≡ goes ds es class place
@@ -75,14 +71,7 @@ module _ (edits : List Edit) (ds : List Decl) (told : List DeclKey) (distinct : 
 
   pub going : (classes : List (List ℕ)) → ((n : List ℕ) → list_any (bytes_eq n) classes ≡ is_chain_suspect ds es told n)
       → goes_by_class ds es m classes class place ≡ not (stays ds es class place)
-  going classes are = by-class classes are
-      ∙ ap (λ b. not b || is_touched ds es (ChainKey class place)) (sym (wanted-place es apart class place))
-      ∙ turned (is_wanted es (ChainKey class place)) (is_touched ds es (ChainKey class place))
-    where
-      turned : (a b : Bool) → (not a || b) ≡ not (a && not b)
-      turned true true = refl
-      turned true false = refl
-      turned false b = refl
+  going classes are = grind (arith, by-class, wanted-place)
 
 -- what goes is known of declarations that edits lead to
 abbrev GoesOn : List Decl → List DeclKey → Chains → List (List ℕ) → List ℕ → BeanPlace → List Decl → List DeclKey → Type 0
@@ -96,11 +85,15 @@ pub chains-between : (sides : Sides) → IsBetween sides → AreDistinct sides.i
     → (class : List ℕ) (place : BeanPlace) → is_kept_chain m class place ≡ true
     → goes_by_class sides.index.now.decls sides.next.now m classes class place ≡ not (stays sides.index.now.decls sides.next.now class place)
 chains-between sides between distinct apart m wanted classes are class place kept =
-    let ds = sides.index.now.decls in
-    let edits = between.edited.edits in
-    let told = sides.affected.now in
-    subst (λ e. GoesOn ds told m classes class place e sides.edited.now) (sym between.edited.decls)
-    (subst (GoesOn ds told m classes class place (edited_all ds edits)) (sym between.edited.keys)
-    (λ tells apart are. going edits ds told distinct apart tells m class place (sym (parts-kept same_place m class place) ∙ kept)
-    (wanted class place kept) classes are))
-    between.told apart are
+    grind (
+      arith,
+      sides.index.now.decls,
+      between.edited.edits,
+      sides.affected.now,
+      sides.edited.now,
+      between.edited.decls,
+      between.edited.keys,
+      between.told,
+      going,
+      parts-kept,
+    )

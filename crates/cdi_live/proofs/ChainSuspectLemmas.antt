@@ -9,7 +9,7 @@ use Rattle.cdi_live.proofs.Common.{is_touched, is_chain_suspect, zero, suc, or_f
 use Rattle.cdi_live.proofs.Common.{as_bean, find_bean, set_at, is_enabled, sees_at, has_place, set_by, made_of, made_of_bean}
 use Rattle.cdi_live.proofs.Common.{made_of_binding, made_of_interceptor, reads, reads_in, has_one, key-found, ByChain}
 use Rattle.cdi_live.proofs.Common.{touched_where_seen_differs, each_all, is_place_of, brings_to, class_named, classes_bound, is_bound_by}
-use Rattle.cdi_live.proofs.Common.{is_intercepted_by, holds}
+use Rattle.cdi_live.proofs.Common.{is_intercepted_by, holds, arith}
 use Rattle.cdi_model.specs.{DeclKey.same_key, declared.decl.BindingDecl.BindingDecl}
 use Rattle.cdi_model.specs.declared.decl.Decl.TheVariants as decls
 use Rattle.cdi_model.specs.declared.decl.Kind.TheVariants as kinds
@@ -20,13 +20,11 @@ use Rattle.cdi_match.proofs.BindingLemmas.{brings_type_decides, types_brought-ha
 use Rattle.cdi_effective.specs.Reads.{record_reads}
 use Rattle.cdi_postings.specs.declared.word.Reason.TheVariants as reasons
 use Rattle.cdi_index.proofs.ChangeLemmas.{none-of}
-use Rattle.cdi_intercept.specs.Sets.{around_method, of_method, of_observer, of_producer}
-use Rattle.cdi_intercept.specs.Bindings.{set_of}
+use Rattle.cdi_intercept.specs.{Sets.around_method, Sets.of_method, Sets.of_observer, Sets.of_producer, Bindings.set_of}
 use Rattle.cdi_seen.proofs.{ContributionLemmas.edits_keep_given, SetLemmas.brought-within, SetLemmas.has-names_append, SetLemmas.name-among}
 use Rattle.cdi_seen.specs.{Gives.interceptor_given, Gives.ranked_interceptor, Rests.own_reads, Rests.place_reads, Words.types_bound_by}
 use Rattle.cdi_seen.proofs.{ChainLemmas.chain_same_from, ChainLemmas.keep_interceptors, ChainLemmas.no_interceptor, UseLemmas.uses_by_name}
-use Rattle.cdi_live.proofs.BoundLemmas.{class-word, own-word}
-use Rattle.cdi_live.proofs.ListedLemmas.{of-passing}
+use Rattle.cdi_live.proofs.{BoundLemmas.class-word, BoundLemmas.own-word, ListedLemmas.of-passing}
 use Rattle.cdi_live.specs.ChainSuspects.{is_chain_suspect_by, is_intercepted, is_intercepted_in}
 
 -- a key among those of some names is of one of them
@@ -59,15 +57,7 @@ any-use p (u ∷ us) x h holds = elim (or_cases (bytes_eq u.name x) (has (map na
 
 names-filtered : (p : Qual → Bool) (us : List Qual) (x : List ℕ) → has (map name_of_use (filter p us)) x ≡ true → has (map name_of_use us) x ≡ true
 names-filtered p [] x h = h
-names-filtered p (u ∷ us) x h = by (p u) h (names-filtered p us x)
-  where
-    by : (b : Bool) → has (map name_of_use (cond b (u ∷ filter p us) (filter p us))) x ≡ true
-        → (has (map name_of_use (filter p us)) x ≡ true → has (map name_of_use us) x ≡ true) → has (map name_of_use (u ∷ us)) x ≡ true
-    by true e more = elim (or_cases (bytes_eq u.name x) (has (map name_of_use (filter p us)) x) e) [
-      | inl here ↦ or_left (bytes_eq u.name x) (has (map name_of_use us) x) here
-      | inr there ↦ or_right (bytes_eq u.name x) (has (map name_of_use us) x) (more there)
-    ]
-    by false e more = or_right (bytes_eq u.name x) (has (map name_of_use us) x) (more e)
+names-filtered p (u ∷ us) x h = grind (arith, names-filtered p us x, u.name)
 
 -- ---- one list of declarations
 
@@ -194,11 +184,7 @@ module _ (edits : List Edit) (ds : List Decl) (told : List DeclKey) (distinct : 
       by true e = absurd (false≢true (sym (suspect (key_at kinds.Bean class) e) ∙ same_text class class refl))
 
   bean-unedited : is_among keys (key_at kinds.Bean class) ≡ false
-  bean-unedited = by (is_among keys (key_at kinds.Bean class)) refl
-    where
-      by : (b : Bool) → is_among keys (key_at kinds.Bean class) ≡ b → b ≡ false
-      by false e = refl
-      by true e = absurd (false≢true (sym bean-untold ∙ tells.edited (key_at kinds.Bean class) refl e))
+  bean-unedited = grind (arith, false≢true, bean-untold)
 
   found-same : find_bean class es ≡ find_bean class ds
   found-same = ap as_bean (edits_keep_decl edits ds kinds.Bean class bean-unedited)

@@ -1,10 +1,10 @@
 -- The beans of a type after edits are those of marked declarations.
 use Rattle.cdi_live.proofs.Common.{◌≡◌, Bool, true, false, cond, List, [], ◌∷◌, filter, nat_eq, refl, sym, ap, ◌∙◌, inl, inr, list_any}
-use Rattle.cdi_live.proofs.Common.{false≢true, or_left, or_right, Decl, ℕ, ◌||◌, flat_map, Option, Some, None, option_map_or, key_of}
-use Rattle.cdi_live.proofs.Common.{kind_of, name_of_decl, find_decl, AreDistinct, is_among, edits_keep_decl, ◌++◌, has, Word, word_at}
-use Rattle.cdi_live.proofs.Common.{words_have, IsBetween, Sides, zero, suc, or_parts, has_one, ◌+◌, position, slice_get, arith}
-use Rattle.cdi_live.proofs.Common.{filter-append, is_of, position-found, position-there, beans, entries, own-position, is_listed, is_marked}
-use Rattle.cdi_live.proofs.Common.{marked_from, records_at, is_place_of_one, words_at, words_declared}
+use Rattle.cdi_live.proofs.Common.{false≢true, or_right, Decl, ℕ, ◌||◌, flat_map, Option, Some, None, option_map_or, key_of, kind_of}
+use Rattle.cdi_live.proofs.Common.{name_of_decl, find_decl, AreDistinct, is_among, edits_keep_decl, ◌++◌, has, Word, word_at, words_have}
+use Rattle.cdi_live.proofs.Common.{IsBetween, Sides, zero, suc, or_parts, has_one, ◌+◌, position, slice_get, arith, filter-append, is_of}
+use Rattle.cdi_live.proofs.Common.{position-found, position-there, beans, entries, own-position, is_listed, is_marked, marked_from}
+use Rattle.cdi_live.proofs.Common.{records_at, is_place_of_one, words_at, words_declared}
 use Rattle.std.proofs.Common.{◌⊎◌}
 use Rattle.base_numbers.proofs.Numbers.{nat_eq-refl}
 use Rattle.cdi_model.specs.declared.decl.Decl.TheVariants as decls
@@ -71,11 +71,7 @@ gathered es t marks others = gather (entries es) (λ b. has b.types t) es 0 mark
 among-marked : (test : ℕ → Bool) (n : ℕ) (marks : List Bool) (i : ℕ) → is_marked marks i ≡ true → test (n + i) ≡ true
     → list_any test (marked_from n marks) ≡ true
 among-marked test n [] i marked h = absurd (false≢true marked)
-among-marked test n (m ∷ ms) zero marked h = by m marked
-  where
-    by : (b : Bool) → b ≡ true → list_any test (cond b (n ∷ marked_from (n + 1) ms) (marked_from (n + 1) ms)) ≡ true
-    by true e = or_left (test n) (list_any test (marked_from (n + 1) ms)) (ap test (omega arith) ∙ h)
-    by false e = absurd (false≢true e)
+among-marked test n (m ∷ ms) zero marked h = grind (arith, false≢true)
 among-marked test n (m ∷ ms) (suc i) marked h = by m (among-marked test (n + 1) ms i marked (ap test (omega arith) ∙ h))
   where
     by : (b : Bool) → list_any test (marked_from (n + 1) ms) ≡ true

@@ -1,14 +1,13 @@
 -- Which events are wanted: those for which a declaration asks.
-use Rattle.cdi_live.proofs.Common.{any-same, ◌≡◌, Bool, false, List, [], ◌∷◌, map, refl, sym, ap, ◌∙◌, list_any, Decl, BeanPlace, Qual, ℕ}
-use Rattle.cdi_live.proofs.Common.{◌||◌, flat_map, list_any-append, Edit, AreDistinct, edited_all, edited_keys, mentions, Mention, EventOf}
-use Rattle.cdi_live.proofs.Common.{asks_for, asks_in, is_wanted, key_of_point, points_of, is_asked_after, ◌++◌, ChainKey, places_of}
-use Rattle.cdi_live.proofs.Common.{has_key, EventKey, wanted_by}
+use Rattle.cdi_live.proofs.Common.{any-same, ◌≡◌, Bool, false, List, [], ◌∷◌, map, refl, sym, ◌∙◌, list_any, Decl, BeanPlace, Qual, ℕ}
+use Rattle.cdi_live.proofs.Common.{flat_map, list_any-append, Edit, AreDistinct, edited_all, edited_keys, Mention, EventOf, asks_for}
+use Rattle.cdi_live.proofs.Common.{asks_in, is_wanted, key_of_point, is_asked_after, ChainKey, places_of, has_key, EventKey, wanted_by}
+use Rattle.cdi_live.proofs.Common.{arith}
 use Rattle.std.proofs.Math.Bool.{or-false}
 use Rattle.cdi_model.specs.declared.decl.PointDecl.{PointDecl}
 use Rattle.cdi_model.specs.declared.decl.Decl.TheVariants as decls
 use Rattle.cdi_index.specs.declared.asked.Question.TheVariants as questions
-use Rattle.cdi_observe.specs.Wanted.{asked_by, chains_by, event_in, events_by}
-use Rattle.cdi_observe.specs.Keys.{same_key}
+use Rattle.cdi_observe.specs.Wanted.{chains_by, event_in}
 use Rattle.cdi_live.proofs.AskedLemmas.{asked-after}
 
 module _ (t : List ℕ) (us : List Qual) where
@@ -22,10 +21,7 @@ module _ (t : List ℕ) (us : List Qual) where
 
   at-events : (ms : List Mention) → has_key (flat_map event_in ms) (EventKey t us) ≡ list_any (asks_in questions.Event t us) ms
   at-events [] = refl
-  at-events (m ∷ ms) =
-      list_any-append (same_key (EventKey t us)) (event_in m) (flat_map event_in ms)
-      ∙ ap (λ b. b || has_key (flat_map event_in ms) (EventKey t us)) (at-event m)
-      ∙ ap (λ b. asks_in questions.Event t us m || b) (at-events ms)
+  at-events (m ∷ ms) = grind (arith, at-events ms, list_any-append, at-event)
 
   no-choice : (points : List PointDecl) → has_key (map key_of_point points) (EventKey t us) ≡ false
   no-choice [] = refl
@@ -41,12 +37,7 @@ module _ (t : List ℕ) (us : List Qual) where
 
   fires-is : (d : Decl) → has_key (wanted_by d) (EventKey t us) ≡ asks_for questions.Event t us d
   unfolding asks_for
-  fires-is d =
-      list_any-append (same_key (EventKey t us)) (asked_by d ++ chains_by d) (events_by d)
-      ∙ ap (λ b. b || has_key (events_by d) (EventKey t us))
-      (list_any-append (same_key (EventKey t us)) (asked_by d) (chains_by d)
-      ∙ ap (λ b. b || has_key (chains_by d) (EventKey t us)) (no-choice (points_of d)) ∙ no-chain-by d)
-      ∙ at-events (mentions d)
+  fires-is d = grind (arith, list_any-append, no-choice, no-chain-by, at-events)
 
   -- the event is wanted where a declaration may fire it
   pub event-wanted-is : (ds : List Decl) → is_wanted ds (EventKey t us) ≡ list_any (asks_for questions.Event t us) ds

@@ -1,17 +1,16 @@
 -- The observer methods that an event sees, before and after edits, are among those of the declarations that are looked at.
 use Rattle.cdi_live.proofs.Common.{◌≡◌, Bool, false, List, [], map, filter, refl, sym, ap, ◌∙◌, inl, inr, list_any, Decl, ℕ, ◌||◌, flat_map}
-use Rattle.cdi_live.proofs.Common.{Option, Some, None, option_map_or, AreDistinct, ◌++◌, Effective, word_at, words_have, IsBetween, Sides}
-use Rattle.cdi_live.proofs.Common.{has_one, slice_get, arith, beans, entries, is_listed, is_marked, marked_from, records_at}
-use Rattle.cdi_live.proofs.Common.{is_place_of_one, words_declared, types_of, sorted_by, observes_one, Observer, declared_by, observers}
-use Rattle.cdi_live.proofs.Common.{observes, observing, words_typed}
+use Rattle.cdi_live.proofs.Common.{Some, option_map_or, AreDistinct, ◌++◌, Effective, word_at, words_have, IsBetween, Sides, has_one}
+use Rattle.cdi_live.proofs.Common.{slice_get, arith, beans, entries, is_listed, is_marked, marked_from, records_at, is_place_of_one}
+use Rattle.cdi_live.proofs.Common.{words_declared, types_of, sorted_by, observes_one, Observer, declared_by, observers, observes, observing}
+use Rattle.cdi_live.proofs.Common.{words_typed}
 use Rattle.base_lists.proofs.Flat.{flat-same, flat-twice}
 use Rattle.cdi_model.specs.declared.decl.Decl.TheVariants as decls
 use Rattle.cdi_postings.specs.declared.word.Reason.TheVariants as reasons
 use Rattle.cdi_index.proofs.SoughtLemmas.{observing-one}
 use Rattle.cdi_observe.specs.Observers.{is_before, enabled_bean}
 use Rattle.cdi_questions.proofs.CandidateLemmas.{none-of-decl, same-observers}
-use Rattle.cdi_live.proofs.CompareLemmas.{gather, unmarked-decl}
-use Rattle.cdi_live.proofs.SoughtLemmas.{none-observed}
+use Rattle.cdi_live.proofs.{CompareLemmas.gather, CompareLemmas.unmarked-decl, SoughtLemmas.none-observed}
 
 -- ---- before
 
@@ -20,9 +19,7 @@ pub seen-before : (ds : List Decl) (types : List (List ℕ)) → AreDistinct ds 
     → sorted_by is_before (filter (observes types) (observers ds (flat_map (entries ds) (filter (observes_one types) ds))))
     ≡ observing ds (beans ds) t
 unfolding observing
-seen-before ds types distinct t are =
-    ap (sorted_by is_before) (same-observers ds types distinct)
-    ∙ ap (λ ts. sorted_by is_before (filter (observes ts) (observers ds (beans ds)))) are
+seen-before ds types distinct t are = grind (arith, same-observers)
 
 -- ---- after
 
@@ -39,11 +36,7 @@ module _ (es : List Decl) (types : List (List ℕ)) (marks : List Bool) (distinc
   of_place p = option_map_or of_decl (slice_get es p) []
 
   at-place : (p : ℕ) → flat_map of_record (records_at es p) ≡ of_place p
-  at-place p = by (slice_get es p)
-    where
-      by : (o : Option Decl) → flat_map of_record (option_map_or (entries es) o []) ≡ option_map_or of_decl o []
-      by None = refl
-      by (Some d) = refl
+  at-place p = grind arith
 
   same-after : filter (observes types) (observers es (flat_map (records_at es) (marked_from 0 marks)))
       ≡ filter (observes types) (observers es (beans es))
@@ -60,9 +53,7 @@ module _ (es : List Decl) (types : List (List ℕ)) (marks : List Bool) (distinc
       → sorted_by is_before (filter (observes types) (observers es (flat_map (records_at es) (marked_from 0 marks))))
       ≡ observing es (beans es) t
   unfolding observing
-  seen-after t are =
-      ap (sorted_by is_before) same-after
-      ∙ ap (λ ts. sorted_by is_before (filter (observes ts) (observers es (beans es)))) are
+  seen-after t are = grind (arith, same-after)
 
 -- ---- who is marked
 

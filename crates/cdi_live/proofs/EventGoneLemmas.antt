@@ -3,16 +3,15 @@ use Rattle.cdi_live.proofs.Common.{◌≡◌, Bool, true, false, not, ◌&&◌, 
 use Rattle.cdi_live.proofs.Common.{bytes_eq, and_from, and_parts, false≢true, or_cases, or_left, or_right, Decl, Qual, ℕ, ◌||◌, Option}
 use Rattle.cdi_live.proofs.Common.{Some, None, option_map_or, Edit, DeclKey, key_of, kind_of, name_of_decl, find_decl, AreDistinct}
 use Rattle.cdi_live.proofs.Common.{edited_all, edited_keys, is_among, mentions, Mention, EventOf, asks_for, asks_in, is_wanted, IsPresent}
-use Rattle.cdi_live.proofs.Common.{all_present, found_any, witness, is_asked_after, subst, bytes_decides, Tells, parts_under, parts-kept}
+use Rattle.cdi_live.proofs.Common.{all_present, found_any, witness, is_asked_after, bytes_decides, Tells, parts_under, parts-kept}
 use Rattle.cdi_live.proofs.Common.{is_touched, IsBetween, Sides, holds, EventKey, keys_of, same_quals, same_quals-decides, ObserverId}
-use Rattle.cdi_live.proofs.Common.{is_touched_of, Events, is_suspect, not-true, same-bool}
+use Rattle.cdi_live.proofs.Common.{is_touched_of, Events, is_suspect, not-true, same-bool, arith, is_dropped_by, is_dropped_in}
 use Rattle.std.specs.Map.{lookup}
 use Rattle.std.proofs.lemmas.Map.Made.{is_some-lookup}
 use Rattle.cdi_index.specs.declared.asked.Question.TheVariants as questions
-use Rattle.cdi_live.proofs.AskedLemmas.{any-among, any-elim}
+use Rattle.cdi_live.proofs.{AskedLemmas.any-among, AskedLemmas.any-elim, EventSuspectLemmas.is-held, EventSuspectLemmas.untouched}
 use Rattle.cdi_live.proofs.EventAskedLemmas.{event-wanted-is, fired-after}
-use Rattle.cdi_live.proofs.EventSuspectLemmas.{is-held, untouched}
-use Rattle.cdi_live.specs.EventDropped.{is_dropped_at, is_dropped_by, is_dropped_in, is_kept, Drops}
+use Rattle.cdi_live.specs.EventDropped.{is_dropped_at, is_kept, Drops}
 use Rattle.cdi_live.specs.EventStage.{event_stays, EventsAreWanted}
 
 -- the type of a kept event is a name of which something is kept
@@ -67,11 +66,7 @@ module _ (sees : List ℕ → List Qual → Bool) (t : List ℕ) (us : List Qual
   -- what of some types sees something is what sees it, where each other does not
   sees-by-type : (parts : List ℕ → List (List Qual)) → list_any (same_quals us) (parts t) ≡ true → (types : List (List ℕ)) (is_among_them : Bool)
       → list_any (bytes_eq t) types ≡ is_among_them → (is_among_them ≡ false → sees t us ≡ false) → of_types parts types ≡ sees t us
-  sees-by-type parts own types is_among_them same spared = same-bool (of_types parts types) (sees t us) (some-sees parts types) (back is_among_them refl)
-    where
-      back : (b : Bool) → is_among_them ≡ b → sees t us ≡ true → of_types parts types ≡ true
-      back true e is = at-type parts own types (same ∙ e) is
-      back false e is = absurd (false≢true (sym (spared e) ∙ is))
+  sees-by-type parts own types is_among_them same spared = grind (arith, same-bool, some-sees, at-type, false≢true)
 
 -- ---- by who fires
 
@@ -185,10 +180,14 @@ pub gone-between : (sides : Sides) → IsBetween sides → AreDistinct sides.ind
     || list_any (is_dropped_at sides.index.now.decls drops t us) sides.edited.now)
     ≡ not (event_stays sides.index.now.decls sides.next.now t us)
 gone-between sides between distinct apart m wanted drops are types suspects t us kept =
-    let ds = sides.index.now.decls in
-    let edits = between.edited.edits in
-    let told = sides.affected.now in
-    subst (λ e. GoesOn ds told m drops types t us e sides.edited.now) (sym between.edited.decls)
-    (subst (GoesOn ds told m drops types t us (edited_all ds edits)) (sym between.edited.keys)
-    (λ tells apart are suspects. goes edits ds distinct apart m t us kept (wanted t us kept) drops are told tells types suspects))
-    between.told apart are suspects
+    grind (
+      arith,
+      sides.index.now.decls,
+      between.edited.edits,
+      sides.affected.now,
+      sides.edited.now,
+      between.edited.decls,
+      between.edited.keys,
+      between.told,
+      goes,
+    )

@@ -6,22 +6,21 @@ use Rattle.cdi_live.proofs.Common.{key_of, kind_of, name_of_decl, find_decl, Are
 use Rattle.cdi_live.proofs.Common.{Mention, EventOf, PointOf, edits_keep_decl, key_exact, asks_for, asks_in, IsPresent, all_present}
 use Rattle.cdi_live.proofs.Common.{found_any, witness, ◌++◌, unwrap_or, option_map, BeanDecl, ObserverDecl, has, own_records, Word}
 use Rattle.cdi_live.proofs.Common.{same_word, word_at, words_have, words_named, words_named_in, words_of_observer, words_of_record}
-use Rattle.cdi_live.proofs.Common.{words_of_uses, words_by, among-named, Tells, is_touched, zero, suc, or_parts, key_at, Avoid, Chain}
-use Rattle.cdi_live.proofs.Common.{as_bean, find_bean, made_of, reads, reads_in, has_one, touched_where_seen_differs, each_all, holds}
-use Rattle.cdi_live.proofs.Common.{slice_get, arith, beans, is_marked, marked_from, EventKey, types_of, sorted_by, Observer, declared_by}
-use Rattle.cdi_live.proofs.Common.{observers, observes, observing, same_quals, same_quals-decides, is_suspect, records, records_declared}
-use Rattle.cdi_live.proofs.Common.{records_in, same_word_equiv, made_of_type, words-of-asker, walk, event_sees, ByEvent, event_types}
-use Rattle.cdi_live.proofs.Common.{fired_at, fired_in, fired_types, may_have, observed_at, observed_by_key, words_edited, same-bool}
-use Rattle.cdi_live.proofs.Common.{words-append}
+use Rattle.cdi_live.proofs.Common.{words_of_uses, words_by, among-named, Tells, is_touched, or_parts, key_at, Avoid, Chain, as_bean}
+use Rattle.cdi_live.proofs.Common.{find_bean, made_of, reads, reads_in, has_one, touched_where_seen_differs, each_all, holds, slice_get}
+use Rattle.cdi_live.proofs.Common.{arith, beans, is_marked, marked_from, EventKey, types_of, sorted_by, Observer, declared_by, observers}
+use Rattle.cdi_live.proofs.Common.{observes, observing, same_quals, same_quals-decides, is_suspect, records, records_declared, records_in}
+use Rattle.cdi_live.proofs.Common.{same_word_equiv, made_of_type, words-of-asker, walk, event_sees, ByEvent, event_types, fired_at}
+use Rattle.cdi_live.proofs.Common.{fired_in, fired_types, may_have, observed_at, observed_by_key, words_edited, same-bool, words-append}
+use Rattle.cdi_live.proofs.Common.{same_key}
 use Rattle.std.proofs.Common.{ℤ}
-use Rattle.cdi_model.specs.DeclKey.{same_key}
 use Rattle.cdi_model.proofs.{EditLemmas.edits_keep_others, GivingLemmas.edits_keep_given}
 use Rattle.cdi_model.specs.declared.decl.Decl.TheVariants as decls
 use Rattle.cdi_model.specs.declared.decl.Kind.TheVariants as kinds
 use Rattle.cdi_model.specs.declared.decl.UseKind.TheVariants as uses
-use Rattle.cdi_match.specs.Types.{is_super, is_type, object, supers_of}
+use Rattle.cdi_match.specs.Types.{is_super, is_type, object}
 use Rattle.cdi_match.proofs.TypeLemmas.{is_type_decides, types_of-has, types_of-is, types_of-rises}
-use Rattle.cdi_match.specs.{Chain.Steps, Filled.FilledUse, Filled.filled, Filled.filled_by, Filling.as_qualifier, Filling.find_qualifier}
+use Rattle.cdi_match.specs.{Filled.FilledUse, Filled.filled, Filled.filled_by, Filling.as_qualifier, Filling.find_qualifier}
 use Rattle.cdi_match.proofs.{LocalityLemmas.edits_keep_closure, LocalityLemmas.same_types_apart, Names.any_chosen, Names.chosen}
 use Rattle.cdi_effective.specs.Beans.{managed}
 use Rattle.cdi_postings.specs.declared.word.Reason.TheVariants as reasons
@@ -123,11 +122,7 @@ used (u ∷ us) key h = elim (or_cases (same_key (key_at kinds.Qualifier u.name)
 
 -- a type that is not declared leads to itself alone
 alone : (ds : List Decl) (t s : List ℕ) → find_decl kinds.Type t ds ≡ None → Chain (is_super ds) t s → t ≡ s
-alone ds t s none c = by c.0 c.1
-  where
-    by : (n : ℕ) → Steps (is_super ds) n t s → t ≡ s
-    by zero same = same
-    by (suc n) step = absurd (false≢true (sym (ap (λ o. has (supers_of o) step.0) none) ∙ step.1))
+alone ds t s none c = grind (arith, c.0, c.1, false≢true)
 
 -- what an event of a kept type may have
 has-may : (ds : List Decl) (kept : List (List ℕ)) (t x : List ℕ) → holds kept t ≡ true → has (types_of ds t) x ≡ true → may_have ds kept x t ≡ true
@@ -192,11 +187,7 @@ module _ (edits : List Edit) (ds : List Decl) (told : List DeclKey) (distinct : 
   -- ---- its types
 
   unedited : is_among keys (key_at kinds.Type t) ≡ false
-  unedited = by (is_among keys (key_at kinds.Type t)) refl
-    where
-      by : (b : Bool) → is_among keys (key_at kinds.Type t) ≡ b → b ≡ false
-      by false e = refl
-      by true e = absurd (false≢true (sym first.0 ∙ tells.edited (key_at kinds.Type t) refl e))
+  unedited = grind (arith, false≢true, first.0)
 
   types-same : types_of es t ≡ types_of ds t
   types-same = by (find_decl kinds.Type t ds) refl
@@ -213,12 +204,7 @@ module _ (edits : List Edit) (ds : List Decl) (told : List DeclKey) (distinct : 
 
   -- what is observed by what is concerned is none of them
   other-types : (x : List ℕ) → holds (concerned_types ds es keys told) x ≡ true → has types x ≡ false
-  other-types x concerned = by (has types x) refl
-    where
-      by : (b : Bool) → has types x ≡ b → b ≡ false
-      by false e = refl
-      by true e = absurd (false≢true (sym parts.1
-          ∙ any_chosen (λ y. may_have ds kept y t) (concerned_types ds es keys told) x concerned (has-may ds kept t x named e)))
+  other-types x concerned = grind (arith, false≢true, parts.1, any_chosen, has-may)
 
   told-types : (k : DeclKey) (x : List ℕ) → is_among told k ≡ true → holds (observed_by_key ds es k) x ≡ true → has types x ≡ false
   told-types k x among h = other-types x

@@ -5,13 +5,12 @@ use Rattle.cdi_live.proofs.Common.{Some, None, option_map_or, Edit, DeclKey, key
 use Rattle.cdi_live.proofs.Common.{edited_all, edited_keys, is_among, mentions, Mention, PointOf, asks_for, asks_in, ChoiceKey, is_wanted}
 use Rattle.cdi_live.proofs.Common.{IsPresent, all_present, found_any, witness, is_asked_after, subst, bytes_decides, Tells, parts_under}
 use Rattle.cdi_live.proofs.Common.{parts-kept, is_touched, IsBetween, Sides, holds, same_quals, same_quals-decides, required, Answers}
-use Rattle.cdi_live.proofs.Common.{Choice, are_alike, sees_other, suspects}
+use Rattle.cdi_live.proofs.Common.{Choice, are_alike, sees_other, suspects, is_dropped_at}
 use Rattle.cdi_index.specs.declared.asked.Question.TheVariants as questions
 use Rattle.cdi_seen.proofs.TouchedLemmas.{touched_by_parts}
 use Rattle.cdi_live.proofs.AskedLemmas.{any-among, any-elim, asked-after, wanted-is}
 use Rattle.cdi_live.proofs.SuspectLemmas.{beans-same, uses-alike}
-use Rattle.cdi_live.specs.Dropped.{is_dropped_at, is_dropped_by, is_dropped_in, is_kept, Asks}
-use Rattle.cdi_live.specs.{Gone.stays_known, Stage.AreWanted}
+use Rattle.cdi_live.specs.{Dropped.is_dropped_by, Dropped.is_dropped_in, Dropped.is_kept, Dropped.Asks, Gone.stays_known, Stage.AreWanted}
 
 -- the kept choices for types that see something else
 abbrev pub goes_by_type : (List ℕ → List Qual → Bool) → Answers (List Qual) Choice → List (List ℕ) → List ℕ → List Qual → Bool

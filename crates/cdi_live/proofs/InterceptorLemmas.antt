@@ -1,11 +1,11 @@
 -- The interceptors that a chain sees are found by the words of its bindings.
 use Rattle.cdi_live.proofs.Common.{◌≡◌, Bool, true, false, cond, ◌&&◌, List, [], ◌∷◌, filter, is_some, refl, sym, ap, ◌∙◌, inl, inr}
-use Rattle.cdi_live.proofs.Common.{list_any, false≢true, or_left, or_right, Decl, InterceptorDecl, BeanPlace, Qual, bytes_eq-turned}
-use Rattle.cdi_live.proofs.Common.{uses_one, in_order, part_for, is_seen, shares_type, ℕ, ◌||◌, flat_map, Some, option_map_or, AreDistinct}
-use Rattle.cdi_live.proofs.Common.{mentions, Mention, ◌++◌, option_to_list, of_bindings, of_parts, of_point, Effective, Word, same_word}
-use Rattle.cdi_live.proofs.Common.{word_at, words_have, words_named, words_named_in, among-named, IsBetween, Sides, or_parts, is_enabled}
-use Rattle.cdi_live.proofs.Common.{has_one, slice_get, arith, filter-append, is_listed, is_marked, marked_from, records_at, is_place_of_one}
-use Rattle.cdi_live.proofs.Common.{words_declared, sorted_by, words_typed, same_word_equiv, enabled_at, words_bound, words-append}
+use Rattle.cdi_live.proofs.Common.{list_any, false≢true, Decl, InterceptorDecl, BeanPlace, Qual, bytes_eq-turned, uses_one, in_order}
+use Rattle.cdi_live.proofs.Common.{part_for, is_seen, shares_type, ℕ, ◌||◌, flat_map, Some, option_map_or, AreDistinct, mentions, Mention}
+use Rattle.cdi_live.proofs.Common.{◌++◌, option_to_list, of_bindings, of_parts, of_point, Effective, Word, same_word, word_at, words_have}
+use Rattle.cdi_live.proofs.Common.{words_named, words_named_in, among-named, IsBetween, Sides, or_parts, is_enabled, has_one, slice_get}
+use Rattle.cdi_live.proofs.Common.{arith, filter-append, is_listed, is_marked, marked_from, records_at, is_place_of_one, words_declared}
+use Rattle.cdi_live.proofs.Common.{sorted_by, words_typed, same_word_equiv, enabled_at, words_bound, words-append}
 use Rattle.std.proofs.{lemmas.Grind.flat_map-append, Math.Bool.and-false}
 use Rattle.base_lists.proofs.Any.{any-or}
 use Rattle.cdi_model.specs.declared.decl.Decl.TheVariants as decls
@@ -14,8 +14,7 @@ use Rattle.cdi_model.specs.declared.place.PartPlace.TheVariants as parts
 use Rattle.cdi_postings.specs.declared.word.Reason.TheVariants as reasons
 use Rattle.cdi_intercept.specs.Chains.{as_interceptor, interceptors, is_before}
 use Rattle.cdi_seen.proofs.{ChainLemmas.order, SortLemmas.filtered_in_order}
-use Rattle.cdi_live.proofs.CompareLemmas.{gather, unmarked-decl}
-use Rattle.cdi_live.proofs.SoughtLemmas.{fewer, none-declared}
+use Rattle.cdi_live.proofs.{CompareLemmas.gather, CompareLemmas.unmarked-decl, SoughtLemmas.fewer, SoughtLemmas.none-declared}
 use Rattle.cdi_live.specs.ChainGone.{enabled_in}
 
 -- ---- in order
@@ -52,16 +51,10 @@ pub cover-one : (us : List Qual) → Cover (words_bound us) us
 cover-one us x h = bound-has us x ∙ h
 
 pub cover-first : (us vs : List Qual) → Cover (words_bound us ++ words_bound vs) us
-cover-first us vs x h =
-    let w : Word = word_at reasons.Binds x in
-    words-append w (words_bound us) (words_bound vs)
-    ∙ or_left (words_have (words_bound us) w) (words_have (words_bound vs) w) (bound-has us x ∙ h)
+cover-first us vs x h = grind (arith, words-append, bound-has)
 
 pub cover-second : (us vs : List Qual) → Cover (words_bound us ++ words_bound vs) vs
-cover-second us vs x h =
-    let w : Word = word_at reasons.Binds x in
-    words-append w (words_bound us) (words_bound vs)
-    ∙ or_right (words_have (words_bound us) w) (words_have (words_bound vs) w) (bound-has vs x ∙ h)
+cover-second us vs x h = grind (arith, words-append, bound-has)
 
 turned : (v w : Word) → same_word v w ≡ same_word w v
 turned v w = same_word_equiv.symm v w
@@ -100,21 +93,10 @@ rest_of i = of_parts parts.AroundInvoke i.around_invoke ++ of_parts parts.Around
 words-of-interceptor : (i : InterceptorDecl) → flat_map words_named_in (mentions (decls.Interceptor i))
     ≡ (words_bound i.bindings ++ flat_map words_named_in (first_of i)) ++ flat_map words_named_in (rest_of i)
 unfolding mentions
-words-of-interceptor i =
-    flat_map-append words_named_in (of_bindings i.bindings ++ first_of i) (rest_of i)
-    ∙ ap (λ ws. ws ++ flat_map words_named_in (rest_of i))
-    (flat_map-append words_named_in (of_bindings i.bindings) (first_of i)
-    ∙ ap (λ ws. ws ++ flat_map words_named_in (first_of i)) (named-bound i.bindings))
+words-of-interceptor i = grind (arith, i.bindings, flat_map-append, named-bound)
 
 bound-named : (i : InterceptorDecl) (w : Word) → words_have (words_bound i.bindings) w ≡ true → words_have (words_named (decls.Interceptor i)) w ≡ true
-bound-named i w h =
-    let bound : List Word = words_bound i.bindings in
-    let first : List Word = flat_map words_named_in (first_of i) in
-    let rest : List Word = flat_map words_named_in (rest_of i) in
-    among-named (decls.Interceptor i) w
-    (ap (λ ws. words_have ws w) (words-of-interceptor i) ∙ words-append w (bound ++ first) rest
-    ∙ or_left (words_have (bound ++ first) w) (words_have rest w)
-    (words-append w bound first ∙ or_left (words_have bound w) (words_have first w) h))
+bound-named i w h = grind (arith, i.bindings, among-named, words-of-interceptor, words-append)
 
 -- an interceptor of which no binding has one of the words shares no type with those
 without-bound : (words : List Word) (bindings : List Qual) (place : BeanPlace) (i : InterceptorDecl) → Cover words bindings

@@ -1,12 +1,11 @@
 -- Each known key is wanted, and as many of the wanted keys are known as answers are kept.
-use Rattle.cdi_live.proofs.Common.{◌≡◌, Bool, true, false, cond, ◌&&◌, List, [], ◌∷◌, length, filter, refl, sym, ap, ◌∙◌, list_any}
-use Rattle.cdi_live.proofs.Common.{bytes_eq, Decl, BeanPlace, Qual, ℕ, ◌||◌, ChoiceKey, is_wanted, same_place, ChainKey, suc, ◌+◌, arith}
-use Rattle.cdi_live.proofs.Common.{has_key, EventKey, same_quals, Key, knows_in, Memos}
+use Rattle.cdi_live.proofs.Common.{◌≡◌, Bool, true, ◌&&◌, List, [], ◌∷◌, length, filter, refl, sym, ap, ◌∙◌, list_any, bytes_eq, Decl}
+use Rattle.cdi_live.proofs.Common.{BeanPlace, Qual, ℕ, ◌||◌, ChoiceKey, is_wanted, same_place, ChainKey, suc, ◌+◌, arith, has_key, EventKey}
+use Rattle.cdi_live.proofs.Common.{same_quals, Key, knows_in, Memos}
 use Rattle.std.specs.List.{IsDistinct}
 use Rattle.std.proofs.lemmas.Map.Keys.{IsDistinct-cons, IsDistinct-head, IsDistinct-tail}
 use Rattle.base_lists.proofs.Any.{none-passes, each-fails}
-use Rattle.cdi_memo.specs.Answers.{how_many, is_kept, same_question, Question}
-use Rattle.cdi_memo.specs.Laws.{CountsAnswered}
+use Rattle.cdi_memo.specs.{Answers.how_many, Answers.is_kept, Answers.same_question, Answers.Question, Laws.CountsAnswered}
 use Rattle.cdi_memo.proofs.QuestionLemmas.{differ-nil}
 use Rattle.cdi_observe.specs.{Wanted.wanted, Keys.same_key}
 use Rattle.cdi_observe.proofs.WantedLemmas.{has-wanted, wanted-distinct}
@@ -113,27 +112,9 @@ module _ (memos : Memos) where
   -- a key is known where its question has an answer
   count-known : (keys : List Key) → length (known keys) ≡ length (choices keys) + (length (chains keys) + length (events keys))
   count-known [] = refl
-  count-known (ChoiceKey t us ∷ keys) = by (is_kept same_quals memos.choices (t, us)) (count-known keys)
-    where
-      by : (b : Bool) → length (known keys) ≡ length (choices keys) + (length (chains keys) + length (events keys))
-          → length (cond b (ChoiceKey t us ∷ known keys) (known keys))
-          ≡ length (cond b ((t, us) ∷ choices keys) (choices keys)) + (length (chains keys) + length (events keys))
-      by true rest = first-more (length (known keys)) (length (choices keys)) (length (chains keys)) (length (events keys)) rest
-      by false rest = rest
-  count-known (ChainKey class place ∷ keys) = by (is_kept same_place memos.chains (class, place)) (count-known keys)
-    where
-      by : (b : Bool) → length (known keys) ≡ length (choices keys) + (length (chains keys) + length (events keys))
-          → length (cond b (ChainKey class place ∷ known keys) (known keys))
-          ≡ length (choices keys) + (length (cond b ((class, place) ∷ chains keys) (chains keys)) + length (events keys))
-      by true rest = second-more (length (known keys)) (length (choices keys)) (length (chains keys)) (length (events keys)) rest
-      by false rest = rest
-  count-known (EventKey t us ∷ keys) = by (is_kept same_quals memos.events (t, us)) (count-known keys)
-    where
-      by : (b : Bool) → length (known keys) ≡ length (choices keys) + (length (chains keys) + length (events keys))
-          → length (cond b (EventKey t us ∷ known keys) (known keys))
-          ≡ length (choices keys) + (length (chains keys) + length (cond b ((t, us) ∷ events keys) (events keys)))
-      by true rest = third-more (length (known keys)) (length (choices keys)) (length (chains keys)) (length (events keys)) rest
-      by false rest = rest
+  count-known (ChoiceKey t us ∷ keys) = grind (arith, count-known keys, first-more)
+  count-known (ChainKey class place ∷ keys) = grind (arith, count-known keys, second-more)
+  count-known (EventKey t us ∷ keys) = grind (arith, count-known keys, third-more)
 
   pub count-wanted : (ds : List Decl) → AreAsked ds memos → CountsAnswered same_quals memos.choices → CountsAnswered same_place memos.chains
       → CountsAnswered same_quals memos.events

@@ -3,8 +3,8 @@ use Rattle.cdi_live.proofs.Common.{◌≡◌, Bool, true, false, cond, not, ◌&
 use Rattle.cdi_live.proofs.Common.{and_parts, false≢true, Decl, BeanPlace, chain_by, ℕ, ◌||◌, Option, Some, None, bytes_eq-turned}
 use Rattle.cdi_live.proofs.Common.{option_map_or, list_any-append, AreDistinct, is_wanted, ◌++◌, BeanDecl, class_bindings, bytes_decides}
 use Rattle.cdi_live.proofs.Common.{same_place, ChainKey, same_place-decides, is_touched, is_kept_chain, ArePlaces, Chains, find_bean}
-use Rattle.cdi_live.proofs.Common.{sees_at, has_place, set_by, ByChain, touched_where_seen_differs, is_place_of, Ok, if◌then◌else◌}
-use Rattle.cdi_live.proofs.Common.{chain_of, answer, Removes, is_gone_chain, AreGoneChains, GoneChain}
+use Rattle.cdi_live.proofs.Common.{has_place, set_by, ByChain, touched_where_seen_differs, is_place_of, Ok, if◌then◌else◌, chain_of, answer}
+use Rattle.cdi_live.proofs.Common.{Removes, is_gone_chain, AreGoneChains, GoneChain, arith}
 use Rattle.std.proofs.Common.{Result, Err}
 use Rattle.cdi_model.specs.declared.refusal.Refusal.{Refusal}
 use Rattle.cdi_model.specs.declared.refusal.Refusal.TheVariants as refusals
@@ -26,19 +26,10 @@ module _ (ds es : List Decl) (m new : Chains) (list : List GoneChain) (gone : Ar
     stays_it : stays ds es class place ≡ true
 
   un-not : (b : Bool) → false ≡ not b → b ≡ true
-  un-not true h = refl
-  un-not false h = absurd (false≢true h)
+  un-not t1 h = grind (arith, false≢true)
 
   staying : (class : List ℕ) (place : BeanPlace) → is_kept_chain new class place ≡ true → Stays class place
-  staying class place kept = by (is_gone_chain list class place) refl (forgets class place)
-    where
-      by : (b : Bool) → is_gone_chain list class place ≡ b
-          → answer same_place new class place ≡ (if b then None else answer same_place m class place) → Stays class place
-      by true e f = absurd (false≢true (sym (ap is_some f) ∙ kept))
-      by false e f = record {
-        same = f;
-        stays_it = un-not (stays ds es class place) (sym e ∙ gone class place (sym (ap is_some f) ∙ kept));
-      }
+  staying class place kept = grind (arith, false≢true, un-not)
 
   pub places-after : ArePlaces es new
   places-after class place kept =
@@ -60,12 +51,7 @@ module _ (ds es : List Decl) (m new : Chains) (list : List GoneChain) (gone : Ar
 
   pub right-chains-after : AreDistinct es → AreRightChains ds m → AreRightChains es new
   right-chains-after apart right class place names kept =
-      let it = staying class place (ap is_some kept) in
-      let parts = and_parts (is_wanted es (ChainKey class place)) (not (is_touched ds es (ChainKey class place))) it.stays_it in
-      let there = told class place (sym (wanted-place es apart class place) ∙ parts.0) in
-      let seen : sees_at ds class place ≡ sees_at es class place =
-      seen-chain (sees_at ds class place) (sees_at es class place) ((touched_where_seen_differs ds es (ChainKey class place)).0 parts.1) in
-      there.1 ∙ ap Ok (sym (told_rests_on_seen ds es class place names there.0 seen (right class place names (sym it.same ∙ kept)) there.1))
+      grind (arith, staying, told, wanted-place, seen-chain, touched_where_seen_differs, told_rests_on_seen)
 
 -- ---- after an evaluation
 
@@ -73,13 +59,7 @@ module _ (ds : List Decl) (m new : Chains) (class : List ℕ) (place : BeanPlace
     (keeps : (c : List ℕ) (p : BeanPlace) → answer same_place new c p
     ≡ (if bytes_eq class c && same_place place p then Some names else answer same_place m c p)) where
   pub known-chain-with : (c : List ℕ) (p : BeanPlace) → is_kept_chain new c p ≡ (is_kept_chain m c p || (bytes_eq class c && same_place place p))
-  known-chain-with c p = ap is_some (keeps c p) ∙ by (bytes_eq class c && same_place place p) (answer same_place m c p)
-    where
-      by : (b : Bool) (o : Option (List (List ℕ))) → is_some (if b then Some names else o) ≡ (is_some o || b)
-      by true None = refl
-      by true (Some x) = refl
-      by false None = refl
-      by false (Some x) = refl
+  known-chain-with c p = grind arith
 
   pub right-chains-with : chain_of ds class place ≡ Ok names → AreRightChains ds m → AreRightChains ds new
   right-chains-with is right c p others kept = by (bytes_eq class c && same_place place p) refl (sym (keeps c p) ∙ kept)
@@ -110,16 +90,4 @@ pub forget-next-chain : (items rest : List GoneChain) (one : GoneChain) (old new
     → Removes same_place one.class one.place old new → (c : List ℕ) (p : BeanPlace)
     → (if is_gone_chain rest c p then None else answer same_place new c p) ≡ (if is_gone_chain items c p then None else answer same_place old c p)
 forget-next-chain items rest one old new are removes c p =
-    ap (λ o. if is_gone_chain rest c p then None else o) (removes c p)
-    ∙ by (is_gone_chain rest c p) (bytes_eq one.class c) (same_place one.place p) (answer same_place old c p)
-    ∙ ap (λ b. if b then None else answer same_place old c p)
-    (ap (λ b. is_gone_chain rest c p || ((b && same_place one.place p) || false)) (bytes_eq-turned one.class c)
-    ∙ ap (λ b. is_gone_chain rest c p || ((bytes_eq c one.class && b) || false)) (same_place_equiv.symm one.place p)
-    ∙ sym (list_any-append (λ g. bytes_eq c g.class && same_place p g.place) rest (one ∷ [])) ∙ ap (λ gs. is_gone_chain gs c p) (sym are))
-  where
-    by : (g b q : Bool) (o : Option (List (List ℕ)))
-        → (if g then None else (if b && q then None else o)) ≡ (if g || ((b && q) || false) then None else o)
-    by true b q o = refl
-    by false true true o = refl
-    by false true false o = refl
-    by false false q o = refl
+    grind (arith, one.class, one.place, bytes_eq-turned, same_place_equiv.symm, list_any-append)

@@ -3,18 +3,17 @@ use Rattle.cdi_live.proofs.Common.{◌≡◌, Bool, true, false, not, ◌&&◌, 
 use Rattle.cdi_live.proofs.Common.{bytes_eq, and_parts, false≢true, Decl, BeanPlace, Qual, ℕ, ◌||◌, Option, Some, None, bytes_eq-turned}
 use Rattle.cdi_live.proofs.Common.{list_any-append, ChoiceKey, is_wanted, ◌++◌, subst, bytes_decides, same_place, ChainKey, is_touched}
 use Rattle.cdi_live.proofs.Common.{Chains, touched_where_seen_differs, beans, EventKey, same_quals, same_quals-decides, ObserverId, Events}
-use Rattle.cdi_live.proofs.Common.{event_sees, ByEvent, required, Answers, Choice, Key, knows_in, Memos, Ok, if◌then◌else◌, chain_of}
-use Rattle.cdi_live.proofs.Common.{answer, Removes, IfSome, eqb-true, after_key, with_known, is_gone, Gone}
+use Rattle.cdi_live.proofs.Common.{required, Answers, Choice, Key, knows_in, Memos, Ok, if◌then◌else◌, chain_of, answer, Removes, IfSome}
+use Rattle.cdi_live.proofs.Common.{eqb-true, after_key, with_known, is_gone, Gone, arith}
 use Rattle.std.proofs.Common.{◌==◌}
 use Rattle.std.proofs.lemmas.List.{nil_from_length}
 use Rattle.cdi_model.specs.{Quals.put_use, SameUse.same_quals_equiv, Work.with_one}
 use Rattle.cdi_effective.specs.Qualifiers.{default_use}
 use Rattle.cdi_index.specs.State.{committed as index_committed, committed_to, State as IndexState}
-use Rattle.cdi_resolve.specs.{Choices.chosen, Choices.eligible, Sees.sees, Sees.Seen}
+use Rattle.cdi_resolve.specs.{Choices.chosen, Choices.eligible}
 use Rattle.cdi_resolve.proofs.SeenLemmas.{choice_rests_on_seen}
-use Rattle.cdi_observe.specs.{Kept.work_with, Kept.Kept, Observers.notified, Sees.SeenOfEvent}
+use Rattle.cdi_observe.specs.{Kept.Kept, Observers.notified}
 use Rattle.cdi_observe.proofs.SeenLemmas.{notified_rest_on_seen}
-use Rattle.cdi_seen.specs.Touched.{ByChoice}
 use Rattle.cdi_live.proofs.LiveChainLemmas.{known-chain-with, places-after, places-with, right-chains-after, right-chains-with}
 use Rattle.cdi_live.proofs.PartLemmas.{nothing-more}
 use Rattle.cdi_live.specs.State.{AreKept, AreRight, HasDefault, IsDefaultOrNone, IsGoing, IsLive, MayGo}
@@ -119,18 +118,10 @@ ids_of ds t us = notified ds (beans ds) t us
 
 same-choice : (ds es : List Decl) (t : List ℕ) (us : List Qual) → not (is_touched ds es (ChoiceKey t us)) ≡ true
     → choice_of ds t us ≡ choice_of es t us
-same-choice ds es t us h = choice_rests_on_seen ds es (beans ds) (beans es) t us
-    (seen (sees ds (beans ds) t us) (sees es (beans es) t us) ((touched_where_seen_differs ds es (ChoiceKey t us)).0 h))
-  where
-    seen : (a b : Seen) → ByChoice a ≡ ByChoice b → a ≡ b
-    seen a b e = cc
+same-choice ds es t us h = grind (arith, choice_rests_on_seen, touched_where_seen_differs)
 
 same-ids : (ds es : List Decl) (t : List ℕ) (us : List Qual) → not (is_touched ds es (EventKey t us)) ≡ true → ids_of ds t us ≡ ids_of es t us
-same-ids ds es t us h = notified_rest_on_seen ds es (beans ds) (beans es) t us
-    (seen (event_sees ds (beans ds) t us) (event_sees es (beans es) t us) ((touched_where_seen_differs ds es (EventKey t us)).0 h))
-  where
-    seen : (a b : SeenOfEvent) → ByEvent a ≡ ByEvent b → a ≡ b
-    seen a b e = cc
+same-ids ds es t us h = grind (arith, notified_rest_on_seen, touched_where_seen_differs)
 
 -- ---- a commit
 
@@ -149,8 +140,7 @@ module _ (ds es : List Decl) (memos new : Memos) (going : Going) (are : AreGoing
   }
 
 none-either : (b : Bool) (o : Option Choice) → o ≡ None → (if b then None else o) ≡ None
-none-either true o h = refl
-none-either false o h = h
+none-either t1 o h = grind arith
 
 -- where no choice is kept, none is after some are forgotten
 default-after : (us : List Qual) (m new : Choices) (gone : List ℕ → List Qual → Bool)
@@ -178,11 +168,7 @@ live-after index after memos new by_default before now going live was none is fo
 -- a choice by what is required is the choice
 pub chosen-by-required : (ds : List Decl) (t : List ℕ) (us : List Qual) → choice_of ds t (required us) ≡ choice_of ds t us
 unfolding chosen eligible
-chosen-by-required ds t us = by us
-  where
-    by : (us : List Qual) → choice_of ds t (required us) ≡ choice_of ds t us
-    by [] = refl
-    by (u ∷ us) = refl
+chosen-by-required ds t us = grind arith
 
 -- one more choice
 module _ (ds : List Decl) (memos : Memos) (new : Choices) (t : List ℕ) (us : List Qual) (choice : Choice)
@@ -288,9 +274,7 @@ right-lent ds m t us uses right same (Some choice) is =
 pub kept-after : (ds : List Decl) (knows knows_now : Key → Bool) (work counted : ℕ) (k : Key) → knows_now ≡ with_known ds knows k
     → false ≡ knows k → counted ≡ with_one work → keeping knows_now counted ≡ after_key ds k (keeping knows work)
 unfolding after_key
-kept-after ds knows knows_now work counted k known unknown one =
-    let more : counted ≡ work_with knows k work = one ∙ ap (λ b. if b then work else with_one work) unknown in
-    λ i. record { keeps = true; knows = known i; work = more i }
+kept-after ds knows knows_now work counted k known unknown one = grind arith
 
 -- ---- what is forgotten, one after another
 
@@ -298,15 +282,4 @@ pub forget-next : {A : Type 0} (items rest : List Gone) (one : Gone) (old new : 
     → Removes same_quals one.bean_type one.uses old new → (t : List ℕ) (us : List Qual)
     → (if is_gone rest t us then None else answer same_quals new t us) ≡ (if is_gone items t us then None else answer same_quals old t us)
 forget-next {A = A} items rest one old new are removes t us =
-    ap (λ o. if is_gone rest t us then None else o) (removes t us)
-    ∙ by (is_gone rest t us) (bytes_eq one.bean_type t) (same_quals one.uses us) (answer same_quals old t us)
-    ∙ ap (λ b. if b then None else answer same_quals old t us)
-    (ap (λ b. is_gone rest t us || ((b && same_quals one.uses us) || false)) (bytes_eq-turned one.bean_type t)
-    ∙ ap (λ b. is_gone rest t us || ((bytes_eq t one.bean_type && b) || false)) (same_quals_equiv.symm one.uses us)
-    ∙ sym (list_any-append (λ g. bytes_eq t g.bean_type && same_quals us g.uses) rest (one ∷ [])) ∙ ap (λ gs. is_gone gs t us) (sym are))
-  where
-    by : (g b q : Bool) (o : Option A) → (if g then None else (if b && q then None else o)) ≡ (if g || ((b && q) || false) then None else o)
-    by true b q o = refl
-    by false true true o = refl
-    by false true false o = refl
-    by false false q o = refl
+    grind (arith, one.bean_type, one.uses, bytes_eq-turned, same_quals_equiv.symm, list_any-append)

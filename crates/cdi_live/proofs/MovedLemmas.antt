@@ -1,8 +1,7 @@
 -- The names of what goes.
-use Rattle.cdi_live.proofs.Common.{◌≡◌, Bool, true, false, ◌&&◌, List, [], ◌∷◌, refl, sym, ap, ◌∙◌, inl, inr, list_any, bytes_eq, and_parts}
-use Rattle.cdi_live.proofs.Common.{false≢true, or_cases, or_left, or_right, BeanPlace, Qual, ℕ, ◌||◌, Option, Some, None, has, subst}
-use Rattle.cdi_live.proofs.Common.{bytes_decides, same_place, zero, suc, same_quals, is_gone_chain, GoneChain, is_gone, Gone, option_copied}
-use Rattle.cdi_live.proofs.Common.{slice_get}
+use Rattle.cdi_live.proofs.Common.{◌≡◌, true, ◌&&◌, List, [], ◌∷◌, sym, ap, ◌∙◌, inl, inr, list_any, bytes_eq, and_parts, false≢true}
+use Rattle.cdi_live.proofs.Common.{or_cases, or_left, or_right, BeanPlace, Qual, ℕ, ◌||◌, Option, Some, has, bytes_decides, same_place}
+use Rattle.cdi_live.proofs.Common.{zero, suc, same_quals, is_gone_chain, GoneChain, is_gone, Gone, option_copied, slice_get, arith}
 use Rattle.std.specs.Option.{option_eq}
 use Rattle.std.proofs.Common.{Bor}
 
@@ -18,24 +17,7 @@ among (x ∷ names) (suc k) name n same is = or_right (bytes_eq x n) (has names 
 pub already-there : (names list : List (List ℕ)) (k : ℕ) (last : Option (Bor (List ℕ))) (name : Bor (List ℕ)) → list ≡ names
     → option_copied last ≡ slice_get list k → option_eq (λ x y. bytes_eq x.now y.now) last (Some name) ≡ true
     → (n : List ℕ) → has names n ≡ (has names n || bytes_eq name.now n)
-already-there names list k last name are found same n = by (bytes_eq name.now n) refl
-  where
-    as-copied : (o : Option (Bor (List ℕ))) → option_eq (λ x y. bytes_eq x.now y.now) o (Some name) ≡ true
-        → option_eq bytes_eq (option_copied o) (Some name.now) ≡ true
-    as-copied None h = absurd (false≢true h)
-    as-copied (Some x) h = h
-
-    at-end : option_eq bytes_eq (slice_get names k) (Some name.now) ≡ true
-    at-end = subst (λ ns. option_eq bytes_eq (slice_get ns k) (Some name.now) ≡ true) are
-        (subst (λ o. option_eq bytes_eq o (Some name.now) ≡ true) found (as-copied last same))
-
-    or-none : (b : Bool) → (b || false) ≡ b
-    or-none true = refl
-    or-none false = refl
-
-    by : (b : Bool) → bytes_eq name.now n ≡ b → has names n ≡ (has names n || b)
-    by true is = among names k name.now n at-end is ∙ sym (or_right (has names n) true refl)
-    by false other = sym (or-none (has names n))
+already-there names list k last name are found same n = grind (arith, name.now, false≢true, among)
 
 -- ---- what goes
 

@@ -1,22 +1,14 @@
 -- The parts of a name, one after another.
-use Rattle.cdi_live.proofs.Common.{◌≡◌, Bool, true, false, ◌&&◌, List, [], ◌∷◌, length, is_some, refl, sym, ap, ◌∙◌, list_any, false≢true}
-use Rattle.cdi_live.proofs.Common.{ℕ, ◌||◌, Option, Some, None, zero, suc, ◌+◌, slice_get, arith, option_copied, ◌<◌, take}
+use Rattle.cdi_live.proofs.Common.{◌≡◌, Bool, false, ◌&&◌, List, [], ◌∷◌, length, is_some, refl, sym, ap, ◌∙◌, list_any, false≢true, ℕ}
+use Rattle.cdi_live.proofs.Common.{◌||◌, Option, Some, None, zero, suc, ◌+◌, slice_get, arith, option_copied, ◌<◌, take}
 use Rattle.std.specs.Borrow.{Bor}
 
 -- one part more
 any-after : {X : Type 0} (f : X → Bool) (xs : List X) (i : ℕ) (x : X) → slice_get xs i ≡ Some x
     → list_any f (take (suc i) xs) ≡ (list_any f (take i xs) || f x)
 any-after f [] i x at = absurd (let no : None ≡ Some x = at in cc)
-any-after f (y ∷ ys) zero x at = let one : y ≡ x = cc in ap (λ z. f z || false) one ∙ or-none (f x)
-  where
-    or-none : (b : Bool) → (b || false) ≡ b
-    or-none true = refl
-    or-none false = refl
-any-after f (y ∷ ys) (suc i) x at = ap (λ b. f y || b) (any-after f ys i x at) ∙ grouped (f y) (list_any f (take i ys)) (f x)
-  where
-    grouped : (a b c : Bool) → (a || (b || c)) ≡ ((a || b) || c)
-    grouped true b c = refl
-    grouped false b c = refl
+any-after f (y ∷ ys) zero x at = grind arith
+any-after f (y ∷ ys) (suc i) x at = grind (arith, any-after f ys i x at)
 
 pub any-next : {X : Type 0} (f : X → Bool) (xs : List X) (i : ℕ) (x : X) → slice_get xs i ≡ Some x
     → list_any f (take (i + 1) xs) ≡ (list_any f (take i xs) || f x)
@@ -37,14 +29,10 @@ within (y ∷ ys) zero x at = omega arith
 within (y ∷ ys) (suc i) x at = omega (arith, within ys i x at)
 
 pub regroup : (g b l x : Bool) → ((g || (b && l)) || (b && x)) ≡ (g || (b && (l || x)))
-regroup true b l x = refl
-regroup false true l x = refl
-regroup false false l x = refl
+regroup t1 b l x = grind arith
 
 pub nothing-more : (g b : Bool) → g ≡ (g || (b && false))
-nothing-more true b = refl
-nothing-more false true = refl
-nothing-more false false = refl
+nothing-more t1 b = grind arith
 
 -- nothing is lent
 pub none-copied : {X : Type 0} (o : Option (Bor X)) → is_some o ≡ false → option_copied o ≡ None

@@ -1,10 +1,9 @@
 -- The declarations that read another one are those of the list of its readers.
-use Rattle.cdi_live.proofs.Common.{same-bool, ◌≡◌, Bool, true, false, ◌&&◌, List, [], ◌∷◌, refl, sym, ap, ◌∙◌, list_any, and_from}
-use Rattle.cdi_live.proofs.Common.{and_parts, false≢true, or_left, or_right, Decl, ℕ, ◌||◌, Option, Some, None, DeclKey, key_of, find_decl}
-use Rattle.cdi_live.proofs.Common.{AreDistinct, is_among, IsPresent, all_present, found_any, witness, option_map, key_at, as_binding}
-use Rattle.cdi_live.proofs.Common.{as_bean, made_of, made_of_bean, made_of_binding, made_of_interceptor, reads, key-found, made_of_type}
-use Rattle.cdi_live.proofs.Common.{Kind}
-use Rattle.cdi_model.specs.DeclKey.{same_key, same_key_equiv}
+use Rattle.cdi_live.proofs.Common.{same-bool, ◌≡◌, Bool, true, ◌&&◌, List, [], ◌∷◌, refl, sym, ap, ◌∙◌, list_any, and_from, and_parts}
+use Rattle.cdi_live.proofs.Common.{false≢true, Decl, ℕ, Option, Some, None, DeclKey, key_of, find_decl, AreDistinct, is_among, IsPresent}
+use Rattle.cdi_live.proofs.Common.{all_present, found_any, witness, option_map, key_at, as_binding, as_bean, made_of, made_of_bean}
+use Rattle.cdi_live.proofs.Common.{made_of_binding, made_of_interceptor, reads, key-found, made_of_type, Kind, arith}
+use Rattle.cdi_model.specs.DeclKey.{same_key_equiv}
 use Rattle.cdi_model.specs.declared.decl.Kind.TheVariants as kinds
 use Rattle.cdi_live.proofs.AskedLemmas.{any-among}
 
@@ -31,13 +30,7 @@ is-declared ds k key read = by k.kind k.name read
 -- a test that is true of some key among others is true of one
 member : (p : DeclKey → Bool) (keys : List DeclKey) → list_any p keys ≡ true → (k : DeclKey) × (is_among keys k ≡ true) × (p k ≡ true)
 member p [] h = absurd (false≢true h)
-member p (k ∷ keys) h = by (p k) refl h (member p keys)
-  where
-    by : (b : Bool) → p k ≡ b → (b || list_any p keys) ≡ true
-        → (list_any p keys ≡ true → (l : DeclKey) × (is_among keys l ≡ true) × (p l ≡ true))
-        → (l : DeclKey) × (is_among (k ∷ keys) l ≡ true) × (p l ≡ true)
-    by true e f more = (k, or_left (same_key k k) (is_among keys k) (same_key_equiv.refl k), e)
-    by false e f more = let it = more f in (it.0, or_right (same_key k it.0) (is_among keys it.0) it.1, it.2)
+member p (k ∷ keys) h = grind (arith, member p keys, same_key_equiv.refl)
 
 pub of-readers : (ds : List Decl) → AreDistinct ds → (key : DeclKey) (list : List DeclKey) (p : DeclKey → Bool)
     → ((k : DeclKey) → is_among list k ≡ reads (made_of ds k) key)

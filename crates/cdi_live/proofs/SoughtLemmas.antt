@@ -1,10 +1,10 @@
 -- The declarations that edits affect are found by their words where they are listed.
-use Rattle.cdi_live.proofs.Common.{◌≡◌, Bool, true, false, ◌&&◌, List, [], ◌∷◌, length, map, filter, nat_eq, is_some, refl, sym, ap, ◌∙◌}
-use Rattle.cdi_live.proofs.Common.{list_any, bytes_eq, and_parts, false≢true, or_right, Decl, ℕ, ◌||◌, Option, Some, None, bytes_eq-turned}
-use Rattle.cdi_live.proofs.Common.{option_map_or, list_any-append, DeclKey, key_of, find_decl, AreDistinct, is_among, ◌++◌, ObserverDecl}
-use Rattle.cdi_live.proofs.Common.{has, Effective, Word, same_word, word_at, words_have, subst, or_from, or_parts, position, slice_get}
-use Rattle.cdi_live.proofs.Common.{arith, is_of, position-found, position-there, own-position, is_listed, words_at, words_typed, eqb-true}
-use Rattle.cdi_live.proofs.Common.{◌<◌, Kind, All, limit, is_listed_by, words_observed, AreListed}
+use Rattle.cdi_live.proofs.Common.{◌≡◌, Bool, true, false, ◌&&◌, List, [], ◌∷◌, length, map, filter, nat_eq, refl, sym, ap, ◌∙◌, list_any}
+use Rattle.cdi_live.proofs.Common.{bytes_eq, and_parts, false≢true, or_right, Decl, ℕ, Option, Some, None, bytes_eq-turned, option_map_or}
+use Rattle.cdi_live.proofs.Common.{list_any-append, DeclKey, key_of, AreDistinct, is_among, ◌++◌, ObserverDecl, has, Effective, Word}
+use Rattle.cdi_live.proofs.Common.{same_word, word_at, words_have, subst, or_from, or_parts, position, slice_get, arith, is_of}
+use Rattle.cdi_live.proofs.Common.{position-found, position-there, own-position, is_listed, words_at, words_typed, eqb-true, ◌<◌, Kind, All}
+use Rattle.cdi_live.proofs.Common.{limit, is_listed_by, words_observed, AreListed}
 use Rattle.std.proofs.Common.{◌≤◌, get_or}
 use Rattle.std.proofs.{lemmas.Cmp.nat_eq_equiv, Math.Bool.and-true, lemmas.List.Folds.list_any_at, lemmas.Option.slice_get_within}
 use Rattle.cdi_postings.specs.Listing.{under, Listing}
@@ -17,17 +17,10 @@ use Rattle.cdi_live.specs.Sought.{is_listed_for}
 
 by-itself : (words : List Word) (w : Word) (p : ℕ) → is_listed_by words p w p ≡ words_have words w
 by-itself [] w p = refl
-by-itself (v ∷ words) w p =
-    ap (λ b. (same_word v w && b) || is_listed_by words p w p) (nat_eq_equiv.refl p)
-    ∙ ap (λ b. b || is_listed_by words p w p) (and-true (same_word v w))
-    ∙ ap (λ b. same_word v w || b) (by-itself words w p)
+by-itself (v ∷ words) w p = grind (arith, by-itself words w p, nat_eq_equiv.refl, and-true)
 
 position-within : (kind : Kind) (name : List ℕ) (es : List Decl) (i : ℕ) → position (is_of kind name) es ≡ Some i → i < length es
-position-within kind name es i at = by (find_decl kind name es) refl
-  where
-    by : (o : Option Decl) → find_decl kind name es ≡ o → i < length es
-    by None e = absurd (false≢true (sym (ap is_some e) ∙ sym (position-found kind name es) ∙ ap is_some at))
-    by (Some d) e = slice_get_within es i d (position-there kind name es i at ∙ e)
+position-within kind name es i at = grind (arith, false≢true, position-found, slice_get_within, position-there)
 
 -- what is listed for a key is a position
 listed-within : (es : List Decl) (w : Word) (p : ℕ) (k : DeclKey) → is_listed_for es w p k ≡ true → p < length es
@@ -107,9 +100,7 @@ module _ (ws : List Word) (x : List ℕ) where
 
 pub none-declared : (typed declared : List Word) (words : List Word) → list_any (words_have (typed ++ declared)) words ≡ false
     → list_any (words_have declared) words ≡ false
-none-declared typed declared words none =
-    fewer (words_have declared) (words_have (typed ++ declared)) words
-    (λ w h. list_any-append (λ v. same_word v w) typed declared ∙ or_right (words_have typed w) (words_have declared w) h) none
+none-declared typed declared words none = grind (arith, fewer, list_any-append)
 
 pub none-observed : (typed : List Word) (observers : List ObserverDecl) (types : List (List ℕ))
     → list_any (words_have (typed ++ words_observed observers)) (map (word_at reasons.Observes) types) ≡ false

@@ -9,8 +9,7 @@ use Rattle.cdi_live.proofs.Common.{words_of_bindings, words_of_observer, words_o
 use Rattle.cdi_live.proofs.Common.{or_parts, key_at, Avoid, as_bean, has_one, each_all, holds, entries, same_quals, same_quals-decides}
 use Rattle.cdi_live.proofs.Common.{records, records_declared, records_in, same_word_equiv, words-of-asker, required, are_alike, suspects}
 use Rattle.cdi_live.proofs.Common.{offers, see_same_beans, asked_in, asked_types, concerned, types_of_edited, types_of_key}
-use Rattle.cdi_live.proofs.Common.{types_of_records, words-append}
-use Rattle.cdi_model.specs.DeclKey.{same_key}
+use Rattle.cdi_live.proofs.Common.{types_of_records, words-append, same_key}
 use Rattle.cdi_model.specs.declared.decl.Decl.TheVariants as decls
 use Rattle.cdi_model.specs.declared.decl.Kind.TheVariants as kinds
 use Rattle.cdi_effective.specs.Reads.{qualifier_reads}

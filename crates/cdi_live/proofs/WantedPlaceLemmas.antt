@@ -1,8 +1,8 @@
 -- A chain is asked for where the bean of its class has its place.
 use Rattle.cdi_live.proofs.Common.{same-bool, ◌≡◌, Bool, true, false, ◌&&◌, List, [], ◌∷◌, map, refl, sym, ap, ◌∙◌, list_any, bytes_eq}
-use Rattle.cdi_live.proofs.Common.{and_from, and_parts, false≢true, Decl, BeanPlace, ℕ, ◌||◌, Option, Some, None, option_map_or}
-use Rattle.cdi_live.proofs.Common.{AreDistinct, is_wanted, IsPresent, all_present, found_any, witness, BeanDecl, same_place, ChainKey}
-use Rattle.cdi_live.proofs.Common.{one_text, as_bean, find_bean, has_place, is_place_of, places_of, has_key, wanted_by, same_text}
+use Rattle.cdi_live.proofs.Common.{and_from, and_parts, false≢true, Decl, BeanPlace, ℕ, Option, Some, None, option_map_or, AreDistinct}
+use Rattle.cdi_live.proofs.Common.{is_wanted, IsPresent, all_present, found_any, witness, BeanDecl, same_place, ChainKey, one_text, as_bean}
+use Rattle.cdi_live.proofs.Common.{find_bean, has_place, is_place_of, places_of, has_key, wanted_by, same_text, arith}
 use Rattle.cdi_model.specs.declared.decl.Decl.TheVariants as decls
 use Rattle.cdi_model.specs.declared.decl.Kind.TheVariants as kinds
 use Rattle.cdi_observe.proofs.BeanPlaceLemmas.{has-it}
@@ -13,18 +13,8 @@ use Rattle.cdi_live.proofs.ChainSuspectLemmas.{bean-there}
 
 chains-are : (name class : List ℕ) (place : BeanPlace) (ps : List BeanPlace)
     → has_key (map (ChainKey name) ps) (ChainKey class place) ≡ (bytes_eq class name && list_any (same_place place) ps)
-chains-are name class place [] = sym (and-false (bytes_eq class name))
-  where
-    and-false : (b : Bool) → (b && false) ≡ false
-    and-false true = refl
-    and-false false = refl
-chains-are name class place (p ∷ ps) =
-    ap (λ c. (bytes_eq class name && same_place place p) || c) (chains-are name class place ps)
-    ∙ both (bytes_eq class name) (same_place place p) (list_any (same_place place) ps)
-  where
-    both : (a b c : Bool) → ((a && b) || (a && c)) ≡ (a && (b || c))
-    both true b c = refl
-    both false b c = refl
+chains-are name class place [] = grind arith
+chains-are name class place (p ∷ ps) = grind (arith, chains-are name class place ps)
 
 abbrev asks : List ℕ → BeanPlace → Decl → Bool
 asks class place d = option_map_or (λ b. bytes_eq class b.name && has_place b place) (as_bean (Some d)) false

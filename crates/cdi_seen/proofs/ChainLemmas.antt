@@ -1,30 +1,28 @@
 -- A chain that is not at stake sees the same.
-use Rattle.cdi_seen.proofs.Common.{◌≡◌, ℕ, ℤ, Bool, true, false, cond, List, [], ◌∷◌, ◌++◌, map, filter, flat_map, Option, Some, None}
-use Rattle.cdi_seen.proofs.Common.{option_map, unwrap_or, refl, sym, ap, ◌∙◌, IsStrictWeakOrder, list_any, bytes_eq, and_right, or_from}
-use Rattle.cdi_seen.proofs.Common.{or_left, or_right, map-append, filter-append, key_at, AreDistinct, edited_all, Avoid, name_of_use}
-use Rattle.cdi_seen.proofs.Common.{BeanDecl, Decl, Edit, BeanPlace, Qual, edits_keep_decl, avoid-first, avoid-head, same_text, avoid-second}
-use Rattle.cdi_seen.proofs.Common.{has, FilledUse, filled, filled_by, binding_reads, effective, class_bindings, in_place_of, as_bean}
-use Rattle.cdi_seen.proofs.Common.{find_bean, uses_one, record_reads, Effective, edits_keep_own_records, around_method, of_method}
-use Rattle.cdi_seen.proofs.Common.{of_observer, of_producer, set_by, sorted_by, sorted_map, ChainKey, unranked, IsPresent, given_reads}
-use Rattle.cdi_seen.proofs.Common.{own_bindings, own_reads, TellsAffected, use_reads, IsUnmet, names_under, SeenInterceptor}
-use Rattle.std.proofs.{Common.is_some, lemmas.List.Sorted.ranks_by}
+use Rattle.cdi_seen.proofs.Common.{◌≡◌, ℕ, ℤ, Bool, true, false, List, [], ◌∷◌, ◌++◌, map, filter, flat_map, Option, Some, None, option_map}
+use Rattle.cdi_seen.proofs.Common.{unwrap_or, refl, sym, ap, ◌∙◌, IsStrictWeakOrder, list_any, bytes_eq, and_right, or_from, or_left}
+use Rattle.cdi_seen.proofs.Common.{or_right, map-append, filter-append, key_at, AreDistinct, edited_all, Avoid, name_of_use, BeanDecl, Decl}
+use Rattle.cdi_seen.proofs.Common.{Edit, BeanPlace, Qual, edits_keep_decl, avoid-first, avoid-head, same_text, avoid-second, has, FilledUse}
+use Rattle.cdi_seen.proofs.Common.{filled, filled_by, binding_reads, effective, class_bindings, in_place_of, find_bean, uses_one}
+use Rattle.cdi_seen.proofs.Common.{record_reads, Effective, edits_keep_own_records, around_method, of_method, of_observer, of_producer}
+use Rattle.cdi_seen.proofs.Common.{set_by, sorted_by, sorted_map, ChainKey, unranked, IsPresent, given_reads, own_bindings, own_reads}
+use Rattle.cdi_seen.proofs.Common.{TellsAffected, use_reads, IsUnmet, names_under, SeenInterceptor, arith}
+use Rattle.std.proofs.{lemmas.List.Sorted.ranks_by}
 use Rattle.std.specs.{Cmp.int_cmp_total, Cmp.Lexicographic.options_total, Option.option_to_list}
 use Rattle.base_lists.proofs.Any.{any-map}
-use Rattle.cdi_model.specs.{DeclKey.same_key, declared.decl.InterceptorDecl.InterceptorDecl}
+use Rattle.cdi_model.specs.{declared.decl.InterceptorDecl.InterceptorDecl}
 use Rattle.cdi_model.specs.declared.decl.Decl.TheVariants as decls
 use Rattle.cdi_model.specs.declared.decl.Kind.TheVariants as kinds
 use Rattle.cdi_model.specs.declared.decl.UseKind.TheVariants as uses
 use Rattle.cdi_model.specs.declared.place.BeanPlace.TheVariants as places
 use Rattle.cdi_match.specs.Filling.{as_binding, find_binding}
 use Rattle.cdi_match.proofs.LocalityLemmas.{edits_keep_bindings}
-use Rattle.cdi_intercept.specs.Chains.{as_interceptor, in_order, interceptors, is_before, is_enabled, part_for}
-use Rattle.cdi_intercept.specs.Sees.{is_seen, seen_interceptor, sees_at, sees_by, shares_type}
+use Rattle.cdi_intercept.specs.Chains.{as_interceptor, in_order, interceptors, is_before, is_enabled}
+use Rattle.cdi_intercept.specs.Sees.{is_seen, seen_interceptor, sees_at, sees_by}
 use Rattle.cdi_intercept.specs.Bindings.{in_text_order, set_at, set_of}
 use Rattle.cdi_intercept.proofs.UseLemmas.{any-in_text_order}
-use Rattle.cdi_seen.proofs.GatherLemmas.{avoid_given, gather, Leaves}
-use Rattle.cdi_seen.proofs.SetLemmas.{avoid_set_types}
-use Rattle.cdi_seen.proofs.SortLemmas.{each_given, filtered_in_order}
-use Rattle.cdi_seen.proofs.UseLemmas.{read_same, uses_by_name}
+use Rattle.cdi_seen.proofs.{GatherLemmas.avoid_given, GatherLemmas.gather, GatherLemmas.Leaves, SetLemmas.avoid_set_types}
+use Rattle.cdi_seen.proofs.{SortLemmas.each_given, SortLemmas.filtered_in_order, UseLemmas.read_same, UseLemmas.uses_by_name}
 use Rattle.cdi_seen.specs.Gives.{InterceptorsByDeclaration, interceptor_at, interceptor_given, is_before_interceptor, ranked_interceptor}
 use Rattle.cdi_seen.specs.{Rests.place_reads, Words.Intercepts, Words.types_bound_by}
 
@@ -43,11 +41,7 @@ given ds set place is = map (ranked_interceptor ds) (filter (is_seen set place) 
 
 given-append : (ds : List Decl) (set : List Qual) (place : BeanPlace) (xs ys : List InterceptorDecl)
     → given ds set place (xs ++ ys) ≡ given ds set place xs ++ given ds set place ys
-given-append ds set place xs ys =
-    ap (λ l. map (ranked_interceptor ds) (filter (is_seen set place) l)) (filter-append is_enabled xs ys)
-    ∙ ap (map (ranked_interceptor ds)) (filter-append (is_seen set place) (filter is_enabled xs) (filter is_enabled ys))
-    ∙ map-append (ranked_interceptor ds) (filter (is_seen set place) (filter is_enabled xs))
-    (filter (is_seen set place) (filter is_enabled ys))
+given-append ds set place xs ys = grind (arith, filter-append, map-append)
 
 pub interceptors_by_declaration : InterceptorsByDeclaration
 unfolding in_order
@@ -74,19 +68,7 @@ keep-interceptor edits ds i avoid =
 
 pub keep_interceptors : (edits : List Edit) (ds : List Decl) (set : List Qual) (place : BeanPlace) (d : Decl)
     → Avoid (given_reads ds d) edits → interceptor_given set place (edited_all ds edits) d ≡ interceptor_given set place ds d
-keep_interceptors edits ds set place (decls.Interceptor i) avoid =
-    by (is_enabled i) (keep-interceptor edits ds i avoid)
-  where
-    seen : (b : Bool) → seen_interceptor (edited_all ds edits) i ≡ seen_interceptor ds i
-        → map (ranked_interceptor (edited_all ds edits)) (cond b (i ∷ []) []) ≡ map (ranked_interceptor ds) (cond b (i ∷ []) [])
-    seen true same = λ j. (i.priority, same j) ∷ []
-    seen false same = refl
-
-    by : (b : Bool) → seen_interceptor (edited_all ds edits) i ≡ seen_interceptor ds i
-        → map (ranked_interceptor (edited_all ds edits)) (filter (is_seen set place) (cond b (i ∷ []) []))
-        ≡ map (ranked_interceptor ds) (filter (is_seen set place) (cond b (i ∷ []) []))
-    by true same = seen (is_seen set place i) same
-    by false same = refl
+keep_interceptors edits ds set place (decls.Interceptor i) avoid = grind (arith, i.priority, keep-interceptor)
 keep_interceptors edits ds set place other avoid = refl
 
 -- ---- what shares no type with the bindings at a place gives it nothing
@@ -101,13 +83,7 @@ no-share set (u ∷ us) h =
 
 pub no_interceptor : (set : List Qual) (place : BeanPlace) (d : Decl)
     → ((x : List ℕ) → has (types_bound_by d) x ≡ true → uses_one set x ≡ false) → interceptor_at set place d ≡ []
-no_interceptor set place (decls.Interceptor i) none = by (is_enabled i) none
-  where
-    by : (b : Bool) → ((x : List ℕ) → has (cond b (map name_of_use i.bindings) []) x ≡ true → uses_one set x ≡ false)
-        → filter (is_seen set place) (cond b (i ∷ []) []) ≡ []
-    by true h = ap (λ (b : Bool). cond {A = List InterceptorDecl} b (i ∷ []) [])
-        (and_right (is_some (part_for place i)) (shares_type set i) (no-share set i.bindings h))
-    by false h = refl
+no_interceptor set place (decls.Interceptor i) none = grind (arith, i.bindings, and_right, no-share)
 no_interceptor set place other none = refl
 
 pub chain_by_words : (set : List Qual) (place : BeanPlace) (ds : List Decl) (d : Decl)
@@ -149,13 +125,7 @@ keep_place edits ds place (Some b) avoid =
 
 pub keep_set_at : (edits : List Edit) (ds : List Decl) (class : List ℕ) (place : BeanPlace)
     → Avoid (own_reads ds (ChainKey class place)) edits → set_at (edited_all ds edits) class place ≡ set_at ds class place
-keep_set_at edits ds class place avoid =
-    let own = key_at kinds.Bean class in
-    let others = place_reads ds place (find_bean class ds) in
-    let found : find_bean class (edited_all ds edits) ≡ find_bean class ds =
-    ap as_bean (edits_keep_decl edits ds kinds.Bean class (avoid-head edits own others avoid)) in
-    ap (λ f. set_of (edited_all ds edits) f place) found
-    ∙ keep_place edits ds place (find_bean class ds) (avoid-second edits (own ∷ []) others avoid)
+keep_set_at edits ds class place avoid = grind (arith, edits_keep_decl, avoid-head, keep_place, avoid-second)
 
 avoid-types : (edits : List Edit) (ds : List Decl) (place : BeanPlace) (found : Option BeanDecl)
     → Avoid (place_reads ds place found) edits → Avoid (use_reads uses.Binding (set_of ds found place)) edits
@@ -168,11 +138,7 @@ avoid-types edits ds place (Some b) avoid =
 -- the types of bindings in order are those of the bindings
 avoid-ordered : (edits : List Edit) (us : List Qual) → Avoid (use_reads uses.Binding us) edits
     → Avoid (use_reads uses.Binding (in_text_order us)) edits
-avoid-ordered edits us avoid key edited =
-    any-map (λ k. same_key k key) (λ (u : Qual). key_at kinds.Binding u.name) (in_text_order us)
-    ∙ any-in_text_order (λ u. same_key (key_at kinds.Binding u.name) key) us
-    ∙ sym (any-map (λ k. same_key k key) (λ (u : Qual). key_at kinds.Binding u.name) us)
-    ∙ avoid key edited
+avoid-ordered edits us avoid key edited = grind (arith, any-map, any-in_text_order)
 
 -- ---- the key
 

@@ -4,13 +4,12 @@ use Rattle.cdi_seen.proofs.Common.{bytes_eq, and_right, or_left, AreDistinct, ed
 use Rattle.cdi_seen.proofs.Common.{Effective, IsPresent, own_reads, TellsAffected, IsUnmet, names_under, not, ◌&&◌, both_ways}
 use Rattle.cdi_seen.proofs.Common.{false_from_ne_true, or_parts, list_any-append, as_qualifier, find_qualifier, beans, own_records, records}
 use Rattle.cdi_seen.proofs.Common.{unless_replaced, is_replaced, records_are_own, ChoiceKey, required, offers, seen_bean, contribution}
-use Rattle.cdi_seen.proofs.Common.{seen_beans, seen_of}
+use Rattle.cdi_seen.proofs.Common.{seen_beans, seen_of, arith}
 use Rattle.cdi_model.specs.declared.decl.Decl.TheVariants as decls
 use Rattle.cdi_model.specs.declared.decl.Kind.TheVariants as kinds
 use Rattle.cdi_resolve.specs.Sees.{sees}
-use Rattle.cdi_seen.proofs.ContributionLemmas.{edits_keep_seen_beans, seen_same}
+use Rattle.cdi_seen.proofs.{ContributionLemmas.edits_keep_seen_beans, ContributionLemmas.seen_same, UseLemmas.read_same}
 use Rattle.cdi_seen.proofs.GatherLemmas.{avoid_given, avoid_quals, keep_records, leave_given, Leaves}
-use Rattle.cdi_seen.proofs.UseLemmas.{read_same}
 use Rattle.cdi_seen.specs.Words.{HasType}
 
 -- ---- what is not affected gives the same
@@ -58,11 +57,7 @@ module _ (edits : List Edit) (ds : List Decl) (is_affected : Decl → Bool) (dis
       (λ h. both_ways (has (t ∷ []) t) (unmet d here e t h) (or_left (bytes_eq t t) false (same_text t t refl)))
 
   leaves : Leaves (λ list. contribution list t) ds es is_affected
-  leaves = record {
-    before = λ d here e. choice_by_words t ds d (not-had ds before d here e);
-    after = λ d here e. choice_by_words t es d (not-had es after d here e);
-    local = λ d here e. keep_beans edits ds is_affected tells t d here e;
-  }
+  leaves = grind (arith, choice_by_words, not-had, keep_beans)
 
   same-beans : seen_beans es t ≡ seen_beans ds t
   same-beans = edits_keep_seen_beans edits ds t

@@ -1,12 +1,11 @@
 -- What each declaration adds to what the keys of a type see rests on what it reads.
 use Rattle.cdi_seen.proofs.Common.{◌≡◌, ℕ, Bool, true, false, cond, List, [], ◌∷◌, ◌++◌, map, filter, flat_map, refl, sym, ap, ◌∙◌}
 use Rattle.cdi_seen.proofs.Common.{map-append, filter-append, key_at, edited_all, Avoid, Decl, Edit, Qual, edits_keep_decl, avoid-first}
-use Rattle.cdi_seen.proofs.Common.{avoid-head, avoid-second, filled, record_reads, Effective, as_qualifier, beans, records, offers}
-use Rattle.cdi_seen.proofs.Common.{seen_bean, contribution, seen_of, edited_keys, is_among, DeclKey, entries, qualifier_reads}
+use Rattle.cdi_seen.proofs.Common.{avoid-head, avoid-second, filled, record_reads, Effective, beans, records, offers, seen_bean}
+use Rattle.cdi_seen.proofs.Common.{contribution, seen_of, edited_keys, is_among, DeclKey, entries, qualifier_reads, arith}
 pub use Rattle.cdi_model.proofs.GivingLemmas.{edits_keep_given}
 use Rattle.cdi_model.specs.declared.decl.Kind.TheVariants as kinds
 use Rattle.cdi_model.specs.declared.decl.UseKind.TheVariants as uses
-use Rattle.cdi_match.specs.{Filling.fill, Filling.members_of, Covering.given_name}
 use Rattle.cdi_effective.proofs.RecordLemmas.{edits_keep_records}
 use Rattle.cdi_resolve.specs.Choices.{candidate}
 use Rattle.cdi_seen.specs.Contribution.{SeenByDeclaration, EditsKeepContribution, EditsKeepSeenBeans}
@@ -33,9 +32,7 @@ use_key u = key_at kinds.Qualifier u.name
 
 filled-same : (edits : List Edit) (ds : List Decl) (u : Qual) → is_among (edited_keys edits) (use_key u) ≡ false
     → filled (edited_all ds edits) uses.Qualifier u ≡ filled ds uses.Qualifier u
-filled-same edits ds u none =
-    let stays = edits_keep_decl edits ds kinds.Qualifier u.name none in
-    λ j. record { name = u.name; given = given_name u.arguments; values = fill (members_of (as_qualifier (stays j))) u }
+filled-same edits ds u none = grind (arith, u.name, u.arguments, edits_keep_decl)
 
 uses-same : (edits : List Edit) (ds : List Decl) (us : List Qual) → Avoid (map use_key us) edits
     → map (filled (edited_all ds edits) uses.Qualifier) us ≡ map (filled ds uses.Qualifier) us

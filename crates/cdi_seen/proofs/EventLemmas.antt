@@ -4,7 +4,7 @@ use Rattle.cdi_seen.proofs.Common.{option_map, unwrap_or, refl, sym, ap, ◌∙�
 use Rattle.cdi_seen.proofs.Common.{AreDistinct, edited_all, Avoid, BeanDecl, Decl, Edit, Qual, avoid-first, avoid-second, has, FilledUse}
 use Rattle.cdi_seen.proofs.Common.{filled, filled_by, effective, as_bean, find_bean, Effective, sorted_by, sorted_map, unranked, same_text}
 use Rattle.cdi_seen.proofs.Common.{IsPresent, own_reads, TellsAffected, use_reads, IsUnmet, names_under, as_qualifier, find_qualifier}
-use Rattle.cdi_seen.proofs.Common.{beans, records, entries, method_reads, EventKey, observing, SeenObserver}
+use Rattle.cdi_seen.proofs.Common.{beans, records, entries, method_reads, EventKey, observing, SeenObserver, arith}
 use Rattle.std.proofs.lemmas.{Grind.flat_map-append, List.append-nil}
 use Rattle.cdi_model.specs.declared.decl.{ObserverDecl.ObserverDecl, ProducerDecl.ProducerDecl}
 use Rattle.cdi_model.specs.declared.decl.Decl.TheVariants as decls
@@ -13,11 +13,10 @@ use Rattle.cdi_model.specs.declared.decl.UseKind.TheVariants as uses
 use Rattle.cdi_match.specs.{Locality.type_reads, Types.types_of}
 use Rattle.cdi_match.proofs.LocalityLemmas.{edits_keep_closure}
 use Rattle.cdi_effective.specs.Beans.{managed, product}
-use Rattle.cdi_observe.specs.Observers.{Observer, declared_by, enabled_bean, is_before, observers, observes, observer_id, priority_of}
+use Rattle.cdi_observe.specs.Observers.{Observer, declared_by, is_before, observers, observes, observer_id, priority_of}
 use Rattle.cdi_observe.specs.Sees.{event_sees, seen_observer}
 use Rattle.cdi_seen.proofs.GatherLemmas.{avoid_given, avoid_methods, gather, keep_records, Leaves, still_present}
-use Rattle.cdi_seen.proofs.SortLemmas.{each_given}
-use Rattle.cdi_seen.proofs.UseLemmas.{read_same}
+use Rattle.cdi_seen.proofs.{SortLemmas.each_given, UseLemmas.read_same}
 use Rattle.cdi_seen.specs.Gives.{ObserversByDeclaration, is_before_observer, observer_given, ranked_observer}
 use Rattle.cdi_seen.specs.Words.{Observes}
 
@@ -33,10 +32,7 @@ given types ds bs = map (ranked_observer ds) (filter (observes types) (observers
 
 given-append : (types : List (List ℕ)) (ds : List Decl) (xs ys : List Effective)
     → given types ds (xs ++ ys) ≡ given types ds xs ++ given types ds ys
-given-append types ds xs ys =
-    ap (λ l. map (ranked_observer ds) (filter (observes types) l)) (flat_map-append (λ b. declared_by (enabled_bean ds b)) xs ys)
-    ∙ ap (map (ranked_observer ds)) (filter-append (observes types) (observers ds xs) (observers ds ys))
-    ∙ map-append (ranked_observer ds) (filter (observes types) (observers ds xs)) (filter (observes types) (observers ds ys))
+given-append types ds xs ys = grind (arith, flat_map-append, filter-append, map-append)
 
 pub observers_by_declaration : ObserversByDeclaration
 unfolding observing beans
@@ -105,8 +101,7 @@ keep-found : (edits : List Edit) (ds : List Decl) (types : List (List ℕ)) (b :
     → Avoid (method_reads b.observers) edits
     → map (ranked_observer (edited_all ds edits)) (filter (observes types) (declared_by (cond enabled (Some b) None)))
     ≡ map (ranked_observer ds) (filter (observes types) (declared_by (cond enabled (Some b) None)))
-keep-found edits ds types b true avoid = keep-methods edits ds types b b.observers avoid
-keep-found edits ds types b false avoid = refl
+keep-found edits ds types b t1 avoid = grind (arith, b.observers, keep-methods)
 
 pub keep_observers : (edits : List Edit) (ds : List Decl) (is_affected : Decl → Bool) (tells : TellsAffected ds edits is_affected)
     (types : List (List ℕ)) (d : Decl) → IsPresent ds d → is_affected d ≡ false
@@ -145,18 +140,12 @@ none-observed types b (m ∷ ms) h =
 none-declared : (types : List (List ℕ)) (b : BeanDecl) (enabled : Bool)
     → ((x : List ℕ) → has (map (λ o. o.event_type) b.observers) x ≡ true → has types x ≡ false)
     → filter (observes types) (declared_by (cond enabled (Some b) None)) ≡ []
-none-declared types b true none = none-observed types b b.observers none
-none-declared types b false none = refl
+none-declared types b t1 none = grind (arith, b.observers, none-observed)
 
 pub event_by_words : (types : List (List ℕ)) (ds : List Decl) (d : Decl) → IsPresent ds d
     → ((x : List ℕ) → has (names_under ds d Observes) x ≡ true → has types x ≡ false) → observer_given types ds d ≡ []
 unfolding names_under
-event_by_words types ds (decls.Bean b) here none =
-    let enabled : Bool = (managed ds b).is_enabled in
-    let found : find_bean b.name ds ≡ Some b = ap as_bean here in
-    ap (λ (os : List Observer). map (ranked_observer ds) (filter (observes types) os))
-    (observers_of ds ds b ∙ ap (λ (f : Option BeanDecl). declared_by (cond enabled f None)) found)
-    ∙ ap (map (ranked_observer ds)) (none-declared types b enabled none)
+event_by_words types ds (decls.Bean b) here none = grind (arith, b.name, observers_of, none-declared)
 event_by_words types ds other here none = refl
 
 -- ---- the key
@@ -191,11 +180,7 @@ module _ (edits : List Edit) (ds : List Decl) (is_affected : Decl → Bool) (dis
   types = types_of ds t
 
   leaves : Leaves (observer_given types) ds es is_affected
-  leaves = record {
-    before = λ d here e. event_by_words types ds d here (before d here e);
-    after = λ d here e. event_by_words types es d here (after d here e);
-    local = λ d here e. keep_observers edits ds is_affected tells types d here e;
-  }
+  leaves = grind (arith, event_by_words, keep_observers)
 
   pub event_sees_same : event_sees es (beans es) t us ≡ event_sees ds (beans ds) t us
   event_sees_same = event_same_from edits ds t us own

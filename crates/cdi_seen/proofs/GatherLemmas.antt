@@ -1,9 +1,9 @@
 -- What all declarations give stays, where what is affected gives nothing and each other one gives the same.
 use Rattle.cdi_seen.proofs.Common.{◌≡◌, Bool, true, false, List, [], ◌∷◌, ◌++◌, map, flat_map, refl, sym, ap, ◌∙◌, key_at, AreDistinct}
 use Rattle.cdi_seen.proofs.Common.{edited_all, Avoid, BeanDecl, Decl, Edit, edits_keep_decl, avoid-first, avoid-head, avoid-second}
-use Rattle.cdi_seen.proofs.Common.{record_reads, Effective, edits_keep_own_records, IsPresent, given_reads, own_reads, TellsAffected, not}
-use Rattle.cdi_seen.proofs.Common.{◌&&◌, own_records, records, unless_replaced, is_replaced, records_are_own, edited_keys, is_among}
-use Rattle.cdi_seen.proofs.Common.{qualifier_reads, method_reads, key_of, kind_of, name_of_decl, wanted_by}
+use Rattle.cdi_seen.proofs.Common.{record_reads, Effective, edits_keep_own_records, IsPresent, given_reads, own_reads, TellsAffected}
+use Rattle.cdi_seen.proofs.Common.{own_records, records, unless_replaced, is_replaced, records_are_own, edited_keys, is_among}
+use Rattle.cdi_seen.proofs.Common.{qualifier_reads, method_reads, key_of, kind_of, name_of_decl, wanted_by, arith}
 use Rattle.cdi_model.specs.Giving.{LeaveGiven}
 use Rattle.cdi_model.proofs.GivingLemmas.{edits_keep_given}
 use Rattle.cdi_model.specs.declared.decl.Decl.TheVariants as decls
@@ -67,10 +67,7 @@ after-first (b ∷ bs) = bs
 same-flags : (p q : Bool) (rs : List Effective) → flags (map (unless_replaced p) rs) ≡ flags (map (unless_replaced q) rs)
     → map (unless_replaced p) rs ≡ map (unless_replaced q) rs
 same-flags p q [] same = refl
-same-flags p q (r ∷ rs) same =
-    let here : (r.is_enabled && not p) ≡ (r.is_enabled && not q) = ap first-flag same in
-    ap (λ b. record r { is_enabled = b } ∷ map (unless_replaced p) rs) here
-    ∙ ap (λ more. unless_replaced q r ∷ more) (same-flags p q rs (ap after-first same))
+same-flags p q (r ∷ rs) same = grind (arith, same-flags p q rs (ap after-first same), r.is_enabled)
 
 -- Records stay, where edits avoid what they rest on and the same of their beans are enabled.
 pub keep_enabled : (edits : List Edit) (ds : List Decl) (b : BeanDecl) → Avoid (record_reads ds b) edits

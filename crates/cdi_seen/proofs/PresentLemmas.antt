@@ -1,9 +1,8 @@
 -- Declarations that are present.
-use Rattle.cdi_seen.proofs.Common.{◌≡◌, ℕ, Bool, true, false, cond, List, [], ◌∷◌, Some, refl, ap, ◌∙◌, list_any, or_left, or_right}
-use Rattle.cdi_seen.proofs.Common.{AreDistinct, Decl, IsPresent, key_of, kind_of, name_of_decl, ◌≢◌, ◌<◌, zero, suc, inl, inr, arith}
-use Rattle.cdi_seen.proofs.Common.{AllByRecursion, false≢true, or_cases, same_key_equiv, find_decl, Kind, length}
+use Rattle.cdi_seen.proofs.Common.{◌≡◌, ℕ, Bool, true, cond, List, [], ◌∷◌, Some, ap, ◌∙◌, list_any, AreDistinct, Decl, IsPresent, key_of}
+use Rattle.cdi_seen.proofs.Common.{kind_of, name_of_decl, ◌≢◌, ◌<◌, zero, suc, inl, inr, arith, AllByRecursion, false≢true, or_cases}
+use Rattle.cdi_seen.proofs.Common.{same_key_equiv, find_decl, Kind, length}
 use Rattle.std.specs.Prelude.{slice_index_or}
-use Rattle.cdi_model.specs.DeclList.{is_of}
 use Rattle.cdi_effective.proofs.PlaceLemmas.{other-key}
 
 -- ---- each declaration of a list is present, where no two have one key
@@ -54,11 +53,4 @@ witness P p (d ∷ ds) all h = elim (or_cases (p d) (list_any p ds) h) [
 pub found_any : (kind : Kind) (name : List ℕ) (ds : List Decl) (d : Decl) (p : Decl → Bool) → find_decl kind name ds ≡ Some d
     → p d ≡ true → list_any p ds ≡ true
 found_any kind name [] d p found h = absurd (cc)
-found_any kind name (e ∷ es) d p found h = by (is_of kind name e) refl (found_any kind name es d p)
-  where
-    by : (b : Bool) → is_of kind name e ≡ b → (find_decl kind name es ≡ Some d → p d ≡ true → list_any p es ≡ true)
-        → list_any p (e ∷ es) ≡ true
-    by true same more =
-        let one : e ≡ d = (let here : Some e ≡ Some d = rw same at found in cc) in
-        or_left (p e) (list_any p es) (ap p one ∙ h)
-    by false other more = or_right (p e) (list_any p es) (more (rw other at found) h)
+found_any kind name (e ∷ es) d p found h = grind (arith, found_any kind name es d p)

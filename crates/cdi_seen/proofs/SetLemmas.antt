@@ -2,9 +2,9 @@
 use Rattle.cdi_seen.proofs.Common.{◌≡◌, ℕ, Bool, true, false, cond, List, [], ◌∷◌, ◌++◌, map, filter, flat_map, Option, Some, None}
 use Rattle.cdi_seen.proofs.Common.{unwrap_or, refl, sym, ap, ◌∙◌, bytes_eq, or_from, or_left, or_right, map-append, key_at, Avoid}
 use Rattle.cdi_seen.proofs.Common.{name_of_use, BeanDecl, Decl, Edit, BeanPlace, Qual, avoid-first, avoid-second, has, binding_reads}
-use Rattle.cdi_seen.proofs.Common.{class_bindings, in_place_of, uses_one, record_reads, around_method, of_method, of_observer, same_text}
-use Rattle.cdi_seen.proofs.Common.{of_producer, set_by, own_bindings, use_reads, not, both_ways, false_from_ne_true, or_parts}
-use Rattle.cdi_seen.proofs.Common.{list_any-append, is_among, DeclKey, ◌||◌, inl, inr, false≢true, or_cases, same_key_equiv}
+use Rattle.cdi_seen.proofs.Common.{class_bindings, in_place_of, record_reads, around_method, of_method, of_observer, same_text, of_producer}
+use Rattle.cdi_seen.proofs.Common.{set_by, own_bindings, use_reads, both_ways, false_from_ne_true, or_parts, list_any-append, is_among}
+use Rattle.cdi_seen.proofs.Common.{DeclKey, ◌||◌, inl, inr, false≢true, or_cases, same_key_equiv, arith}
 use Rattle.std.proofs.Common.{◌⊎◌}
 use Rattle.base_numbers.proofs.Texts.{one_text}
 use Rattle.cdi_model.specs.DeclKey.{same_key}
@@ -15,16 +15,13 @@ use Rattle.cdi_model.specs.declared.place.BeanPlace.TheVariants as places
 use Rattle.cdi_match.specs.Bindings.{BringsType, brings, brought, types_brought, with_brought}
 use Rattle.cdi_match.specs.Stereotypes.{stereotype_decls}
 use Rattle.cdi_match.proofs.{BindingLemmas.brings_type_decides, BindingLemmas.types_brought-has, Chains.chain_more}
-use Rattle.cdi_effective.specs.Reads.{bean_reads, chain_reads, class_reads, product_reads}
-use Rattle.cdi_effective.specs.Bindings.{stereotype_bindings}
+use Rattle.cdi_effective.specs.{Reads.bean_reads, Reads.chain_reads, Reads.class_reads, Reads.product_reads, Bindings.stereotype_bindings}
 
 -- ---- uses bring no type but those that are reached
 
 pub has-names_append : (us vs : List Qual) (x : List ℕ)
     → has (map name_of_use (us ++ vs)) x ≡ (has (map name_of_use us) x || has (map name_of_use vs) x)
-has-names_append us vs x =
-    ap (λ names. has names x) (map-append name_of_use us vs)
-    ∙ list_any-append (λ n. bytes_eq n x) (map name_of_use us) (map name_of_use vs)
+has-names_append us vs x = grind (arith, map-append, list_any-append)
 
 found-from : (ds : List Decl) (bs : List (List ℕ)) (x : List ℕ) → has (map name_of_use (flat_map (brought ds) bs)) x ≡ true
     → (b : List ℕ) × (has bs b ≡ true) × (has (map name_of_use (brought ds b)) x ≡ true)
@@ -115,16 +112,11 @@ none-filtered p (u ∷ us) key h =
 
 avoid-both : (edits : List Edit) (us vs : List Qual) → Avoid (use_reads uses.Binding us) edits → Avoid (use_reads uses.Binding vs) edits
     → Avoid (use_reads uses.Binding (us ++ vs)) edits
-avoid-both edits us vs first second key edited =
-    ap (λ ks. is_among ks key) (map-append (λ (u : Qual). key_at kinds.Binding u.name) us vs)
-    ∙ list_any-append (λ k. same_key k key) (use_reads uses.Binding us) (use_reads uses.Binding vs)
-    ∙ or_from (is_among (use_reads uses.Binding us) key) (is_among (use_reads uses.Binding vs) key) (first key edited) (second key edited)
+avoid-both edits us vs first second key edited = grind (arith, map-append, list_any-append, or_from)
 
 avoid-in_place : (edits : List Edit) (others own : List Qual) → Avoid (use_reads uses.Binding others) edits
     → Avoid (use_reads uses.Binding own) edits → Avoid (use_reads uses.Binding (in_place_of others own)) edits
-avoid-in_place edits others own first second =
-    avoid-both edits own (filter (λ u. not (uses_one own u.name)) others) second
-    (λ key edited. none-filtered (λ u. not (uses_one own u.name)) others key (first key edited))
+avoid-in_place edits others own first second = grind (arith, avoid-both, none-filtered)
 
 -- the types of the bindings of a class
 avoid-class : (edits : List Edit) (ds : List Decl) (b : BeanDecl) → Avoid (class_reads ds b) edits

@@ -1,15 +1,12 @@
 -- A wanted key that is not at stake is not touched.
 use Rattle.cdi_seen.proofs.Common.{◌≡◌, Bool, true, false, List, refl, sym, ap, ◌∙◌, edited_all, Avoid, Decl, edits_keep_decl, has}
 use Rattle.cdi_seen.proofs.Common.{ChainKey, IsPresent, own_reads, IsUnmet, not, ◌&&◌, both_ways, false_from_ne_true, ChoiceKey}
-use Rattle.cdi_seen.proofs.Common.{edited_keys, is_among, EventKey, key_of, kind_of, name_of_decl, wanted_by, ◌||◌, has_key, key_sees}
-use Rattle.cdi_seen.proofs.Common.{is_touched, ByChain, ByChoice, ByEvent}
+use Rattle.cdi_seen.proofs.Common.{edited_keys, is_among, EventKey, key_of, wanted_by, ◌||◌, has_key, key_sees, is_touched, ByChain}
+use Rattle.cdi_seen.proofs.Common.{ByChoice, ByEvent, arith}
 use Rattle.std.proofs.lemmas.Bool.{not-true}
 use Rattle.cdi_observe.specs.{Keys.Key, Wanted.is_wanted}
-use Rattle.cdi_seen.proofs.SameLemmas.{touched_where_seen_differs}
-use Rattle.cdi_seen.proofs.ChainLemmas.{chain_sees_same}
-use Rattle.cdi_seen.proofs.ChoiceLemmas.{choice_sees_same}
-use Rattle.cdi_seen.proofs.EventLemmas.{event_sees_same}
-use Rattle.cdi_seen.proofs.PresentLemmas.{all_present, found_any, witness}
+use Rattle.cdi_seen.proofs.{SameLemmas.touched_where_seen_differs, ChainLemmas.chain_sees_same, ChoiceLemmas.choice_sees_same}
+use Rattle.cdi_seen.proofs.{EventLemmas.event_sees_same, PresentLemmas.all_present, PresentLemmas.found_any, PresentLemmas.witness}
 use Rattle.cdi_seen.specs.Stakes.{MetAreAtStake, OthersStayWanted, SuspectsDecideKnown, UnmetStayUntouched}
 use Rattle.cdi_seen.specs.{Touched.still_known, Words.sought}
 
@@ -28,15 +25,12 @@ unmet_stay_untouched edits ds is_affected distinct distinct' tells key own befor
 
 pub others_stay_wanted : OthersStayWanted
 unfolding is_wanted
-others_stay_wanted edits ds d key here apart asks =
-    found_any (kind_of d) (name_of_decl d) (edited_all ds edits) d (λ f. has_key (wanted_by f) key)
-    (edits_keep_decl edits ds (kind_of d) (name_of_decl d) apart ∙ here) asks
+others_stay_wanted edits ds d key here apart asks = grind (arith, found_any, edits_keep_decl)
 
 -- ---- finer
 
 or-same : (b c : Bool) → (b ≡ false → c ≡ true) → (not b || c) ≡ c
-or-same true c h = refl
-or-same false c h = sym (h refl)
+or-same t1 c h = grind arith
 
 pub suspects_decide_known : SuspectsDecideKnown
 unfolding is_wanted

@@ -1,5 +1,4 @@
-use Rattle.cdi_live.proofs.Common.{◌≡◌, map, filter, surrounds, take}
-use Rattle.cdi_intercept.specs.Lent.{lent_in}
+use Rattle.cdi_live.proofs.Common.{◌≡◌, map, filter, surrounds, take, lent_in}
 use Rattle.cdi_live.proofs.chains.names_among.Given as goal
 
 abbrev pub invariant-loop-interceptor : goal.invariant-loop-interceptor

@@ -1,8 +1,7 @@
 use Rattle.cdi_live.proofs.Common.{◌≡◌, false, List, map, filter, sym, ap, ◌∙◌, Qual, in_text_order, in_order, surrounds, is_seen}
 use Rattle.cdi_live.proofs.Common.{names_around, option_map_or, ◌++◌, Word, subst, set_at, has_one, slice_get, words_bound, IfOk-weaker}
-use Rattle.cdi_intercept.specs.Lent.{lent_in}
-use Rattle.cdi_live.proofs.AroundLemmas.{around-seen}
-use Rattle.cdi_live.proofs.InterceptorLemmas.{cover-one, without-words, Cover}
+use Rattle.cdi_live.proofs.Common.{lent_in}
+use Rattle.cdi_live.proofs.{AroundLemmas.around-seen, InterceptorLemmas.cover-one, InterceptorLemmas.without-words, InterceptorLemmas.Cover}
 use Rattle.cdi_live.proofs.chains.names_around.Goals as goal
 
 pub seen_at-requires : goal.seen_at-requires

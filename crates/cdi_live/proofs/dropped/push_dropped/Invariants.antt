@@ -1,5 +1,4 @@
-use Rattle.cdi_live.proofs.Common.{◌≡◌, List, list_any, Qual, ℕ, ◌||◌, is_gone, take, asks_before}
-use Rattle.cdi_live.specs.Dropped.{is_dropped_at}
+use Rattle.cdi_live.proofs.Common.{◌≡◌, List, list_any, Qual, ℕ, ◌||◌, is_gone, take, asks_before, is_dropped_at}
 use Rattle.cdi_live.proofs.dropped.push_dropped.Given as goal
 
 abbrev pub invariant-loop-key : goal.invariant-loop-key

@@ -1,5 +1,4 @@
-use Rattle.cdi_live.proofs.Common.{◌≡◌, List, list_any, Qual, ℕ, ◌||◌, is_gone, drops_before}
-use Rattle.cdi_live.specs.EventDropped.{is_dropped_by, is_dropped_in}
+use Rattle.cdi_live.proofs.Common.{◌≡◌, List, list_any, Qual, ℕ, ◌||◌, is_gone, drops_before, is_dropped_by, is_dropped_in}
 use Rattle.cdi_live.proofs.event_dropped.push_dropped_by.Given as goal
 
 abbrev pub invariant-loop-mention : goal.invariant-loop-mention

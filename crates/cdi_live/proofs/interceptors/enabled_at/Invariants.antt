@@ -1,5 +1,4 @@
-use Rattle.cdi_live.proofs.Common.{◌≡◌, flat_map, ◌++◌, marked_from, enabled_at}
-use Rattle.cdi_intercept.specs.Lent.{lent_in}
+use Rattle.cdi_live.proofs.Common.{◌≡◌, flat_map, ◌++◌, marked_from, enabled_at, lent_in}
 use Rattle.cdi_live.proofs.interceptors.enabled_at.Given as goal
 
 abbrev pub invariant-loop-position : goal.invariant-loop-position

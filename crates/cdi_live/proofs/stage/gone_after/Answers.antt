@@ -1,6 +1,5 @@
-use Rattle.cdi_live.proofs.Common.{refl, ap, ◌∙◌, list_any, bytes_eq, ◌||◌, asks_before}
+use Rattle.cdi_live.proofs.Common.{refl, ap, ◌∙◌, list_any, bytes_eq, ◌||◌, asks_before, is_dropped_at}
 use Rattle.cdi_live.proofs.GoneLemmas.{gone-between}
-use Rattle.cdi_live.specs.Dropped.{is_dropped_at}
 use Rattle.cdi_live.proofs.stage.gone_after.Goals as goal
 
 pub returns : goal.returns

@@ -1,6 +1,5 @@
 use Rattle.cdi_live.proofs.Common.{◌≡◌, sym, ap, ◌∙◌, inl, ChoiceKey, subst, beans, knows_in, Memos, after_key, with_known, after_known}
-use Rattle.cdi_live.proofs.Common.{kept_in, State}
-use Rattle.cdi_resolve.specs.Choices.{chosen}
+use Rattle.cdi_live.proofs.Common.{kept_in, State, chosen}
 use Rattle.cdi_observe.specs.Keys.{choice_key}
 use Rattle.cdi_live.proofs.LiveLemmas.{chosen-by-required, kept-after, kept-with-choice, keeping, known-with-choice}
 use Rattle.cdi_live.proofs.live.Live.choose.Goals as goal

@@ -1,5 +1,4 @@
-use Rattle.cdi_live.proofs.Common.{subst, beans, IfSome, option_copied, State, ◌≡◌}
-use Rattle.cdi_resolve.specs.Choices.{chosen}
+use Rattle.cdi_live.proofs.Common.{subst, beans, IfSome, option_copied, State, ◌≡◌, chosen}
 use Rattle.cdi_live.proofs.LiveLemmas.{right-lent}
 use Rattle.cdi_live.proofs.live.Live.kept_choice.Goals as goal
 
