@@ -1,6 +1,6 @@
 -- A declaration that is not refused has short lists.
-use Rattle.std.proofs.Common.{◌≡◌, ◌≤◌, ℕ, Bool, true, false, cond, ◌||◌, List, [], ◌∷◌, ◌++◌, map, length, Option, Some, None, refl, ap}
-use Rattle.std.proofs.Common.{sym, ◌∙◌, arith, nat_lt}
+use Rattle.std.proofs.Common.{◌≡◌, ◌≤◌, ℕ, Bool, false, cond, ◌||◌, List, [], ◌∷◌, ◌++◌, map, length, Option, Some, None, ap, sym, ◌∙◌}
+use Rattle.std.proofs.Common.{arith, nat_lt}
 use Rattle.std.proofs.lemmas.{Bool.or_parts, Bool.Decides.nat_tests, List.length-map, Option.none-some}
 use Rattle.std.specs.List.{list_any, flat_map}
 use Rattle.base_lists.proofs.Any.{any-map, any-flat_map}
@@ -20,9 +20,7 @@ pub at-most : (n : ℕ) → nat_lt list_limit n ≡ false → n ≤ list_limit
 at-most n h = grind (arith, nat_tests)
 
 short-part : (part : PartDecl) → is_long_part part ≡ false → IsShortPart part
-short-part part h =
-    let both = or_parts (is_long part.calls) (is_long part.fires) h in
-    record { calls = at-most (length part.calls) both.0; fires = at-most (length part.fires) both.1 }
+short-part part h = grind (arith, part.calls, part.fires, at-most)
 
 few-points : (points : List PointDecl) → is_long (point_names points) ≡ false → length points ≤ list_limit
 few-points points h = at-most (length points) (ap (nat_lt list_limit) (sym (length-map points (λ (p : PointDecl). p.name))) ∙ h)
@@ -34,9 +32,7 @@ one-short o h part e = short-part part (sym (ap is_long_one e) ∙ h)
 -- ---- a bean, and an interceptor
 
 params-of_producer : (p : ProducerDecl) → list_any is_long (lists_of_producer p) ≡ false → length p.params ≤ list_limit
-params-of_producer p h =
-    let own = append-none is_long (lists_of_attributes p.attributes) (point_names p.params ∷ []) h in
-    few-points p.params (or_parts (is_long (point_names p.params)) false own.1).0
+params-of_producer p h = grind (arith, p.attributes, p.params, append-none, few-points)
 
 record AreShort (a b c d e f : Bool) : Type 0 where
   pub construct : a ≡ false
@@ -47,13 +43,7 @@ record AreShort (a b c d e f : Bool) : Type 0 where
   pub observers : f ≡ false
 
 parts-of_six : (a b c d e f : Bool) → (a || b || c || d || e || f) ≡ false → AreShort a b c d e f
-parts-of_six a b c d e f h =
-    let five = or_parts (a || b || c || d || e) f h in
-    let four = or_parts (a || b || c || d) e five.0 in
-    let three = or_parts (a || b || c) d four.0 in
-    let two = or_parts (a || b) c three.0 in
-    let one = or_parts a b two.0 in
-    record { construct = one.0; post = one.1; pre = two.1; methods = three.1; producers = four.1; observers = five.1 }
+parts-of_six a b c d e f h = grind arith
 
 -- the names of the entries of its own lists, and the lists of the methods that have params
 abbrev entry_names : BeanDecl → List (List (List ℕ))
@@ -110,10 +100,7 @@ short-decl d h = tt
 
 -- what is not refused has no long list
 not-refused : (a b c : Bool) → cond a (Some BadName) (cond b (Some Twice) (cond c (Some ListTooLong) None)) ≡ None → c ≡ false
-not-refused true b c e = absurd (none-some BadName (sym e))
-not-refused false true c e = absurd (none-some Twice (sym e))
-not-refused false false true e = absurd (none-some ListTooLong (sym e))
-not-refused false false false e = refl
+not-refused t1 b c e = grind (arith, none-some)
 
 pub short_admitted : (d : Decl) → refusal_of_decl d ≡ None → HasShortLists d
 unfolding refusal_of_decl

@@ -1,18 +1,16 @@
 -- The uses and the events that texts spell are of a form that they have.
-use Rattle.std.proofs.Common.{◌≡◌, ℕ, Bool, true, false, cond, not, ◌||◌, List, [], ◌∷◌, codes, Option, Some, None, unwrap_or, refl, ap}
-use Rattle.std.proofs.Common.{sym, ◌∙◌, inl, inr, Ordering, Less, Equal, Greater}
+use Rattle.std.proofs.Common.{arith, ◌≡◌, ℕ, Bool, true, false, not, ◌||◌, List, [], ◌∷◌, codes, Option, Some, None, unwrap_or, refl, ap}
+use Rattle.std.proofs.Common.{◌∙◌, inl, inr, Ordering, Less, Equal, Greater}
 use Rattle.std.proofs.lemmas.Bool.{and_parts, cases_Bool, false≢true, not-true, not_from_true, or_from, or_parts}
-use Rattle.std.specs.Prelude.{◌==◌, ℤ}
+use Rattle.std.specs.{Prelude.ℤ, Cmp.Lexicographic.bytes_decides, List.list_any, Str.bytes_eq}
 use Rattle.std.proofs.lemmas.Option.{none-some}
-use Rattle.std.specs.{Cmp.Lexicographic.bytes_decides, List.list_all, List.list_any, Str.bytes_eq}
-use Rattle.cdi_model.specs.{Bytes.byte_order, Bytes.comma, Bytes.opening, Grammar.is_name, Mentions.of_event, Mentions.UseOf, Quals.put_use}
+use Rattle.cdi_model.specs.{Bytes.byte_order, Bytes.comma, Bytes.opening, Grammar.is_name, Mentions.of_event, Quals.put_use}
 use Rattle.cdi_model.specs.declared.quals.Qual.{Qual}
 use Rattle.cdi_model.specs.declared.decl.UseKind.TheVariants as uses
 use Rattle.cdi_model.specs.declared.quals.Arguments.TheVariants as arguments
-use Rattle.cdi_uses.specs.Events.{event_of, is_event, is_event_use, type_in, uses_in}
+use Rattle.cdi_uses.specs.{Events.event_of, Events.is_event, Events.is_event_use, Pieces.cut, Pieces.split}
 use Rattle.cdi_uses.specs.Uses.{are_pairs, arguments_in, arguments_inside, before_close, is_inside, is_named, is_own_use, is_plain, is_use}
-use Rattle.cdi_uses.specs.Uses.{is_use_of, members_from, quals_from, use_name, use_of}
-use Rattle.cdi_uses.specs.Pieces.{cut, split}
+use Rattle.cdi_uses.specs.Uses.{is_use_of, quals_from, use_name, use_of}
 use Rattle.cdi_admission.proofs.AnyLemmas.{HasNone, none-all, none-map}
 use Rattle.cdi_admission.specs.Admission.{is_malformed, is_no_use, is_of_default, is_of_named}
 
@@ -26,12 +24,7 @@ plain-use name (m ∷ ms) other plain = or_from (is_named name) (is_plain name) 
 
 inside : (name inner : List ℕ) → is_inside name (Some inner) ≡ true
     → is_no_use (record { name = name; arguments = arguments_inside name inner }) ≡ false
-inside name inner h = elim (cases_Bool (is_named name)) [
-  | inl named ↦ rw named (not_from_true (is_named name) named)
-  | inr other ↦
-      let plain = and_parts (not (is_plain name)) (are_pairs (split comma inner)) (rw other at h) in
-      rw other (plain-use name (members_from [] (split comma inner)) other (not-true (is_plain name) plain.0))
-]
+inside name inner h = grind (arith, not_from_true, plain-use, not-true)
 
 use-in : (name : List ℕ) (rest : Option (List ℕ)) → is_use_of name rest ≡ true
     → is_no_use (record { name = name; arguments = arguments_in name rest }) ≡ false
@@ -54,14 +47,7 @@ spelt-own s h = not-true (is_named (use_name s)) (and_parts (is_use s) (not (is_
 -- a text that is not cut
 whole : (byte : ℕ) (s : List ℕ) → (cut byte s).1 ≡ None → (cut byte s).0 ≡ s
 whole byte [] e = refl
-whole byte (x ∷ xs) e = by (x == byte) e (whole byte xs)
-  where
-    parts : Bool → List ℕ × Option (List ℕ)
-    parts b = cond b ([], Some xs) (x ∷ (cut byte xs).0, (cut byte xs).1)
-
-    by : (b : Bool) → (parts b).1 ≡ None → ((cut byte xs).1 ≡ None → (cut byte xs).0 ≡ xs) → (parts b).0 ≡ x ∷ xs
-    by true e rest = absurd (none-some xs (sym e))
-    by false e rest = ap (λ t. x ∷ t) (rest e)
+whole byte (x ∷ xs) e = grind (arith, whole byte xs, none-some)
 
 not-plain : (name : List ℕ) (o : Option (List ℕ)) → is_inside name o ≡ true → bytes_eq name (codes "Default") ≡ false
 not-plain name None h = absurd (false≢true h)
@@ -111,13 +97,8 @@ none-from bad us (t ∷ ts) none each =
 
 event-uses : (bad : Qual → Bool) → ((t : List ℕ) → is_event_use t ≡ true → bad (use_of t) ≡ false) → (s : List ℕ) → is_event s ≡ true
     → HasNone bad (event_of s).qualifiers
-event-uses bad each s h =
-    let all = (and_parts (is_name (type_in s)) (list_all is_event_use (uses_in s)) h).1 in
-    none-from bad [] (uses_in s) refl (none-all is_event_use (λ t. bad (use_of t)) each (uses_in s) all)
+event-uses bad each s h = grind (arith, none-from, none-all)
 
 -- an event that a text says
 pub spelt-event : (s : List ℕ) → is_event s ≡ true → HasNone is_malformed (of_event (event_of s))
-spelt-event s h =
-    or_from (list_any is_of_default (event_of s).qualifiers) _ (event-uses is_of_default spelt-event_use s h)
-    (none-map is_malformed (UseOf uses.Qualifier) (event_of s).qualifiers
-    (event-uses is_no_use (λ t h. spelt t (and_parts (is_use t) (not (bytes_eq t (codes "Default"))) h).0) s h))
+spelt-event s h = grind (arith, or_from, event-uses, spelt-event_use, none-map, spelt)
