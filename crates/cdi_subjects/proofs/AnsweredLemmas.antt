@@ -1,17 +1,16 @@
 -- Of what a declaration names: its injection points stand in the order in which they are declared, and its call sites have no other
 -- parameters than them.
-use Rattle.std.proofs.Common.{◌≡◌, Bool, true, false, cond, List, [], ◌∷◌, ◌++◌, map, Option, Some, None, refl, sym, ap, subst, ◌∙◌}
+use Rattle.std.proofs.Common.{arith, ◌≡◌, Bool, true, false, cond, List, [], ◌∷◌, ◌++◌, map, Option, Some, None, refl, sym, ap, subst, ◌∙◌}
 use Rattle.std.proofs.Common.{append-nil, flat_map}
 use Rattle.std.specs.{List.find, List.AllByRecursion, Option.option_to_list}
 use Rattle.std.proofs.lemmas.{Bool.and_from, Bool.and_parts, Grind.flat_map-append, Option.none-some, Option.same_Some}
 use Rattle.base_lists.proofs.Each.{all-append}
 use Rattle.cdi_model.specs.Mentions.{Mention, TypeIn, UseOf, StereotypeOf, CallOf, mentions, listed_types, of_attributes, of_bindings}
 use Rattle.cdi_model.specs.Mentions.{of_disposer, of_event, of_method, of_observer, of_part, of_parts, of_point, of_producer, of_qualifiers}
-use Rattle.cdi_model.specs.Mentions.{part_place_of}
+use Rattle.cdi_model.specs.{Mentions.part_place_of, declared.place.PartPlace.PartPlace, declared.quals.Qual.Qual}
 use Rattle.cdi_model.specs.declared.decl.{Attributes.Attributes, BeanDecl.BeanDecl, CallDecl.CallDecl, Decl.Decl, DisposerDecl.DisposerDecl}
 use Rattle.cdi_model.specs.declared.decl.{EventDecl.EventDecl, MethodDecl.MethodDecl, ObserverDecl.ObserverDecl, PartDecl.PartDecl}
 use Rattle.cdi_model.specs.declared.{decl.PointDecl.PointDecl, decl.ProducerDecl.ProducerDecl, mention.PointPlace.PointPlace}
-use Rattle.cdi_model.specs.declared.{place.PartPlace.PartPlace, quals.Qual.Qual}
 use Rattle.cdi_model.specs.declared.decl.Decl.TheVariants as decls
 use Rattle.cdi_model.specs.declared.decl.UseKind.TheVariants as uses
 use Rattle.cdi_model.specs.declared.mention.PointPlace.TheVariants as points_are
@@ -61,10 +60,7 @@ module _ {P : PointDecl → Type 0} {others : List PointDecl} where
       subst (λ points. Lists P others points (xs ++ ys)) (append-nil ps) (both-listed first second)
 
   more-listed : {ps : List PointDecl} {ms : List Mention} (m : Mention) → IsPlain m → Lists P others ps ms → Lists P others ps (m ∷ ms)
-  more-listed {ps} {ms} m (no_point, no_params) listed = record {
-    named = ap (λ l. l ++ flat_map point_named ms) no_point ∙ listed.named;
-    given = λ known all. subst (λ l. AllByRecursion P (l ++ flat_map params_given ms)) (sym no_params) (listed.given known all);
-  }
+  more-listed {ps} {ms} m (no_point, no_params) listed = grind (arith, listed.named, listed.given)
 
   plain-listed : {A : Type 0} (f : A → Mention) → ((x : A) → IsPlain (f x)) → (xs : List A) → Lists P others [] (map f xs)
   plain-listed f plain [] = none-listed
@@ -94,9 +90,7 @@ module _ {P : PointDecl → Type 0} {others : List PointDecl} where
       (plain-listed StereotypeOf (λ s. (refl, refl)) a.stereotypes)
 
   point-listed : (place : PointPlace) (p : PointDecl) → Lists P others (p ∷ []) (of_point place p)
-  point-listed place p =
-      let quals = qualifiers-listed p.qualifiers in
-      record { named = ap (λ l. p ∷ l) quals.named; given = λ known all. quals.given known tt }
+  point-listed place p = grind (arith, p.qualifiers, qualifiers-listed)
 
   points-listed : (place : PointPlace) (ps : List PointDecl) → Lists P others ps (flat_map (of_point place) ps)
   points-listed place [] = none-listed
@@ -110,12 +104,7 @@ module _ {P : PointDecl → Type 0} {others : List PointDecl} where
 module _ {P : PointDecl → Type 0} where
   calls-listed : (place : PartPlace) (params : List PointDecl) (cs : List CallDecl) → Lists P params [] (map (CallOf place params) cs)
   calls-listed place params [] = none-listed
-  calls-listed place params (c ∷ cs) =
-      let rest = calls-listed place params cs in
-      record {
-        named = rest.named;
-        given = λ known all. all-append P params (flat_map params_given (map (CallOf place params) cs)) known (rest.given known all);
-      }
+  calls-listed place params (c ∷ cs) = grind (arith, calls-listed place params cs, all-append)
 
   body-listed : (place : PartPlace) (params : List PointDecl) (part : PartDecl) → Lists P params [] (of_part place params part)
   body-listed place params part =

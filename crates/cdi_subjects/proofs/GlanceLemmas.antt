@@ -1,5 +1,5 @@
 -- What one look at all that a declaration names tells of its faults.
-use Rattle.std.proofs.Common.{◌≡◌, Bool, true, false, not, ◌||◌, ◌&&◌, List, [], ◌∷◌, ◌++◌, Option, None, option_map, refl, sym, ap, ◌∙◌}
+use Rattle.std.proofs.Common.{arith, ◌≡◌, Bool, false, not, ◌||◌, ◌&&◌, List, [], ◌∷◌, ◌++◌, Option, None, option_map, refl, sym, ap, ◌∙◌}
 use Rattle.std.proofs.Common.{is_some}
 use Rattle.std.specs.{List.list_any, Option.option_to_list}
 use Rattle.std.proofs.{Math.Bool.or_assoc, lemmas.Bool.false≢true, lemmas.Bool.or_parts}
@@ -17,11 +17,10 @@ use Rattle.cdi_faults.specs.declared.fault.Subject.{Subject}
 use Rattle.cdi_faults.specs.declared.fault.Code.TheVariants as codes_of
 use Rattle.cdi_faults.specs.declared.fault.Subject.TheVariants as subjects
 use Rattle.cdi_subjects.proofs.SpecializedLemmas.{none-specialized}
-use Rattle.cdi_subjects.specs.Filter.{found_in, is_enabled_in, producer_of_point, some_if}
+use Rattle.cdi_subjects.specs.{Filter.found_in, Parts.unfit_in, Sites.lost_in, declared.glance.Glance.Glance}
 use Rattle.cdi_subjects.specs.Glance.{is_call, is_wrong_in, requires_final_in, with_mention, MissesNothing, is_unresolved, is_unresolved_in}
-use Rattle.cdi_subjects.specs.Specializing.{has_name, is_specializing, lacked_types, lacks_specialized, renames_specialized, types_beyond}
+use Rattle.cdi_subjects.specs.Specializing.{is_specializing, lacked_types, lacks_specialized, renames_specialized, types_beyond}
 use Rattle.cdi_subjects.specs.Subjects.{bad_kind_in, bad_use_in, has_verdict, point_in, unknown_in, whole_if}
-use Rattle.cdi_subjects.specs.{Parts.unfit_in, Proxies.needs_subclass, Sites.lost_in, declared.glance.Glance.Glance}
 use Rattle.cdi_subjects.specs.declared.points.Verdict.TheVariants as verdicts
 
 -- ---- a look that has come to some places
@@ -38,12 +37,7 @@ behind ds book d glance ms = record {
 
 behind-next : (ds : List Decl) (book : List Promised) (d : Decl) (glance : Glance) (m : Mention) (ms : List Mention)
     → behind ds book d (with_mention ds book d glance m) ms ≡ behind ds book d glance (m ∷ ms)
-behind-next ds book d glance m ms =
-    let wrong = or_assoc glance.is_wrong (is_wrong_in ds book d m) (list_any (is_wrong_in ds book d) ms) in
-    let unresolved = or_assoc glance.is_unresolved (is_unresolved_in ds m) (list_any (is_unresolved_in ds) ms) in
-    let final = or_assoc glance.requires_final (requires_final_in ds m) (list_any (requires_final_in ds) ms) in
-    let call = or_assoc glance.calls (is_call m) (list_any is_call ms) in
-    rw (wrong, unresolved, final, call) refl
+behind-next ds book d glance m ms = grind (arith, glance.is_wrong, glance.is_unresolved, glance.requires_final, glance.calls, or_assoc)
 
 -- it tells the same in all once it has come to the next
 pub looked-next : (ds : List Decl) (book : List Promised) (d : Decl) (glance next all : Glance) (m : Mention) (ms left : List Mention)
@@ -61,21 +55,13 @@ found-none fault_in test each (m ∷ ms) none =
     ap (λ o. option_to_list o ++ found_in fault_in ms) (each m first) ∙ found-none fault_in test each ms others
 
 not-unknown : (ds : List Decl) (book : List Promised) (d : Decl) (m : Mention) → is_wrong_in ds book d m ≡ false → unknown_in ds m ≡ None
-not-unknown ds book d m right =
-    let (three, fit) = or_parts _ (is_some (unfit_in book d m)) right in
-    let (two, right_use) = or_parts _ (is_some (bad_use_in ds m)) three in
-    none-from_is_some (unknown_in ds m) (or_parts (is_some (unknown_in ds m)) (is_some (bad_kind_in ds d m)) two).0
+not-unknown ds book d m right = grind (arith, none-from_is_some)
 
 right-form : (ds : List Decl) (book : List Promised) (d : Decl) (m : Mention) → is_wrong_in ds book d m ≡ false → bad_kind_in ds d m ≡ None
-right-form ds book d m right =
-    let (three, fit) = or_parts _ (is_some (unfit_in book d m)) right in
-    let (two, right_use) = or_parts _ (is_some (bad_use_in ds m)) three in
-    none-from_is_some (bad_kind_in ds d m) (or_parts (is_some (unknown_in ds m)) (is_some (bad_kind_in ds d m)) two).1
+right-form ds book d m right = grind (arith, none-from_is_some)
 
 right-use : (ds : List Decl) (book : List Promised) (d : Decl) (m : Mention) → is_wrong_in ds book d m ≡ false → bad_use_in ds m ≡ None
-right-use ds book d m right =
-    let (three, fit) = or_parts _ (is_some (unfit_in book d m)) right in
-    none-from_is_some (bad_use_in ds m) (or_parts _ (is_some (bad_use_in ds m)) three).1
+right-use ds book d m right = grind (arith, none-from_is_some)
 
 fit-body : (ds : List Decl) (book : List Promised) (d : Decl) (m : Mention) → is_wrong_in ds book d m ≡ false → unfit_in book d m ≡ None
 fit-body ds book d m right = none-from_is_some (unfit_in book d m) (or_parts _ (is_some (unfit_in book d m)) right).1
@@ -83,35 +69,18 @@ fit-body ds book d m right = none-from_is_some (unfit_in book d m) (or_parts _ (
 -- a point that does not pass the test is not at fault
 point-passes : (test : PointDecl → Choice → Bool) (answer : PointDecl → Choice) (bs : List Effective) (d : Decl) (place : PointPlace)
     (p : PointDecl) → test p (answer p) ≡ false → point_in test answer bs d (PointOf place p) ≡ None
-point-passes test answer bs d place p fails =
-    let subject = subjects.Point place p.name in
-    ap (λ t. some_if (is_enabled_in d bs (producer_of_point place) && t) subject) fails
-    ∙ apart (is_enabled_in d bs (producer_of_point place)) subject
-  where
-    apart : (b : Bool) (s : Subject) → some_if (b && false) s ≡ None
-    apart true s = refl
-    apart false s = refl
+point-passes test answer bs d place p fails = grind (arith, p.name)
 
 -- nor is one that has one bean, where the test fails for one
 resolved : (ds : List Decl) (test : PointDecl → Choice → Bool) → ((p : PointDecl) (id : BeanId) → test p (choices_are.One id) ≡ false)
     → (bs : List Effective) (d : Decl) (m : Mention) → is_unresolved_in ds m ≡ false → point_in test (answer_to ds) bs d m ≡ None
-resolved ds test fails bs d (PointOf place p) one = point-passes test (answer_to ds) bs d place p (by (answer_to ds p) one)
-  where
-    by : (c : Choice) → is_unresolved c ≡ false → test p c ≡ false
-    by (choices_are.One id) one = fails p id
-    by choices_are.Unsatisfied one = absurd (false≢true (sym one))
-    by (choices_are.Ambiguous ids) one = absurd (false≢true (sym one))
+resolved ds test fails bs d (PointOf place p) one = grind (arith, point-passes, false≢true)
 resolved ds test fails bs d other one = refl
 
 -- nor one whose type lets subclasses be, for these
 not-final : (ds : List Decl) (bs : List Effective) (d : Decl) (m : Mention) → requires_final_in ds m ≡ false
     → point_in (has_verdict ds verdicts.Unproxyable) (answer_to ds) bs d m ≡ None
-not-final ds bs d (PointOf place p) lets =
-    point-passes (has_verdict ds verdicts.Unproxyable) (answer_to ds) bs d place p (fits (answer_to ds p))
-  where
-    fits : (c : Choice) → has_verdict ds verdicts.Unproxyable p c ≡ false
-    fits (choices_are.One id) = ap (λ t. t && needs_subclass ds id) lets
-    fits other = refl
+not-final ds bs d (PointOf place p) lets = grind (arith, point-passes)
 not-final ds bs d other lets = refl
 
 no-call : (ds : List Decl) (bs : List Effective) (d : Decl) (m : Mention) → is_call m ≡ false → lost_in ds (answer_to ds) bs d m ≡ None
@@ -129,13 +98,7 @@ no-types ds (decls.Bean d) says =
 no-types ds other says = refl
 
 no-name : (ds : List Decl) (d : Decl) → is_specializing d ≡ false → whole_if (renames_specialized ds d) ≡ []
-no-name ds (decls.Bean d) says =
-    let named = is_some d.attributes.named in
-    ap (λ o. whole_if (named && has_name (option_map (managed ds) o))) (none-specialized ds d says) ∙ apart named
-  where
-    apart : (b : Bool) → whole_if (b && false) ≡ []
-    apart true = refl
-    apart false = refl
+no-name ds (decls.Bean d) says = grind (arith, d.attributes.named, none-specialized)
 no-name ds other says = refl
 
 pub misses_nothing : MissesNothing

@@ -1,5 +1,5 @@
 -- The record of a bean has the bindings of its class.
-use Rattle.std.proofs.Common.{◌≡◌, ℕ, Bool, true, false, cond, List, [], ◌∷◌, map, Some, is_some, sym, ap, ◌∙◌}
+use Rattle.std.proofs.Common.{arith, ◌≡◌, ℕ, Bool, true, false, cond, List, [], ◌∷◌, map, Some, is_some, sym, ap, ◌∙◌}
 use Rattle.std.specs.List.{find}
 use Rattle.std.proofs.lemmas.{Bool.false≢true, Option.none-some, Option.same_Some}
 use Rattle.cdi_model.specs.{DeclList.find_decl, declared.decl.BeanDecl.BeanDecl, declared.decl.Decl.Decl}
@@ -7,9 +7,8 @@ use Rattle.cdi_model.specs.declared.decl.ProducerDecl.{ProducerDecl}
 use Rattle.cdi_model.proofs.PositionLemmas.{name-found}
 use Rattle.cdi_model.specs.declared.decl.Decl.TheVariants as decls
 use Rattle.cdi_model.specs.declared.decl.Kind.TheVariants as kinds
-use Rattle.cdi_effective.specs.Beans.{effective, managed, product, records}
+use Rattle.cdi_effective.specs.{Beans.effective, Beans.managed, Beans.product, Beans.records, declared.records.Effective.Effective}
 use Rattle.cdi_effective.specs.{Bindings.class_bindings, Disposers.as_bean, Records.records_declared, Records.records_in}
-use Rattle.cdi_effective.specs.declared.records.Effective.{Effective}
 
 -- a bean that is found by a name has it, and is found by its own
 pub found-own : (ds : List Decl) (name : List ℕ) (bean : BeanDecl) → find_decl kinds.Bean name ds ≡ Some (decls.Bean bean)
@@ -32,12 +31,7 @@ module _ (ds : List Decl) (bean : BeanDecl) where
   of-product : (test : Effective → Bool) (producers : List ProducerDecl) (b : Effective)
       → find test (map (product ds bean) producers) ≡ Some b → is_some b.id.producer ≡ true
   of-product test [] b found = absurd (none-some b found)
-  of-product test (p ∷ ps) b found = by (test (product ds bean p)) (of-product test ps b) found
-    where
-      by : (is : Bool) → (find test (map (product ds bean) ps) ≡ Some b → is_some b.id.producer ≡ true)
-          → cond is (Some (product ds bean p)) (find test (map (product ds bean) ps)) ≡ Some b → is_some b.id.producer ≡ true
-      by true more here = product-first p b (same_Some (product ds bean p) b here)
-      by false more there = more there
+  of-product test (p ∷ ps) b found = grind (arith, of-product test ps b, b.id.producer, product-first, same_Some)
 
   managed-first : (b : Effective) → managed ds bean ≡ b → b.bindings ≡ class_bindings ds bean
   unfolding effective

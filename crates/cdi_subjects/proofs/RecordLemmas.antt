@@ -1,5 +1,5 @@
 -- What the records of a bean declaration say of its parts.
-use Rattle.std.proofs.Common.{◌≡◌, ℕ, Bool, true, false, not, cond, List, [], ◌∷◌, ◌++◌, map, filter, length, nat_lt, Option, Some, None}
+use Rattle.std.proofs.Common.{arith, ◌≡◌, ℕ, Bool, true, not, List, [], ◌∷◌, ◌++◌, map, filter, length, nat_lt, Option, Some, None}
 use Rattle.std.proofs.Common.{unwrap_or, refl, ap, ◌∙◌, flat_map}
 use Rattle.std.specs.{List.AllByRecursion, Option.option_to_list, Str.bytes_eq}
 use Rattle.std.proofs.lemmas.{Bool.or_left, Bool.or_right, Map.Views.any-filter_same}
@@ -13,8 +13,7 @@ use Rattle.cdi_effective.specs.{Bindings.class_bindings, Disposers.disposes, dec
 use Rattle.cdi_faults.specs.declared.fault.Subject.TheVariants as parts
 use Rattle.cdi_subjects.specs.Subjects.{binding_conflicts, conditional_dependents, disposers_at_fault, typed, wrongly_listed}
 use Rattle.cdi_subjects.specs.Records.{conditional_by, conflicts_by, conflicts_in, lacked_by, not_had, not_had_by, typed_by, with_two}
-use Rattle.cdi_subjects.specs.Records.{without_product}
-use Rattle.cdi_subjects.specs.Specializing.{lacked_types}
+use Rattle.cdi_subjects.specs.{Records.without_product, Specializing.lacked_types}
 
 -- ---- what a record is told by
 
@@ -30,9 +29,7 @@ product-producer ds bean p = refl
 pub records_of_bean : (ds : List Decl) (d : Decl) (bean : BeanDecl) (b : Effective) (bs : List Effective) → d ≡ decls.Bean bean
     → b ∷ bs ≡ entries ds d
     → (b ≡ managed ds bean) × (bs ≡ map (product ds bean) bean.producers)
-records_of_bean ds d bean b bs is same =
-    let all : b ∷ bs ≡ managed ds bean ∷ map (product ds bean) bean.producers = same ∙ ap (entries ds) is in
-    (cc, cc)
+records_of_bean ds d bean b bs is same = grind (arith, bean.producers)
 
 -- ---- products by the names of their producer methods
 
@@ -40,19 +37,7 @@ pub named_products : (test : Effective → Bool) (ds : List Decl) (bean : BeanDe
     → map parts.Producer (flat_map (λ b. option_to_list b.id.producer) (filter test (map (product ds bean) ps)))
     ≡ map (λ p. parts.Producer p.name) (filter (λ p. test (product ds bean p)) ps)
 named_products test ds bean [] = refl
-named_products test ds bean (p ∷ ps) = by (test (product ds bean p)) (named_products test ds bean ps)
-  where
-    by : (b : Bool) → map parts.Producer (flat_map (λ b. option_to_list b.id.producer) (filter test (map (product ds bean) ps)))
-        ≡ map (λ p. parts.Producer p.name) (filter (λ p. test (product ds bean p)) ps)
-        → map parts.Producer (flat_map (λ b. option_to_list b.id.producer)
-        (cond b (product ds bean p ∷ filter test (map (product ds bean) ps)) (filter test (map (product ds bean) ps))))
-        ≡ map (λ p. parts.Producer p.name) (cond b (p ∷ filter (λ p. test (product ds bean p)) ps)
-        (filter (λ p. test (product ds bean p)) ps))
-    by true rest =
-        ap (λ o. map parts.Producer (option_to_list o
-        ++ flat_map (λ b. option_to_list b.id.producer) (filter test (map (product ds bean) ps)))) (product-producer ds bean p)
-        ∙ ap (λ ms. parts.Producer p.name ∷ ms) rest
-    by false rest = rest
+named_products test ds bean (p ∷ ps) = grind (arith, named_products test ds bean ps, p.name, product-producer)
 
 -- what is at fault of the disposers of a declaration, whose products are those behind its first record
 pub disposers_of_records : (ds : List Decl) (bean : BeanDecl) (b : Effective) (bs : List Effective) → b ∷ bs ≡ entries ds (decls.Bean bean)

@@ -1,7 +1,7 @@
 -- The faults of a declaration rest on its records, the answers to its points, what the names that it writes are declared as, and the bean
 -- that it specializes.
-use Rattle.std.proofs.Common.{◌≡◌, ℕ, Bool, true, false, not, cond, ◌&&◌, ◌||◌, List, [], ◌∷◌, ◌++◌, map, filter, length, nat_lt, codes}
-use Rattle.std.proofs.Common.{Option, Some, None, is_some, option_map, refl, sym, ap, ◌∙◌, flat_map, unwrap_or}
+use Rattle.std.proofs.Common.{arith, ◌≡◌, ℕ, Bool, not, cond, ◌&&◌, ◌||◌, List, [], ◌∷◌, ◌++◌, map, filter, length, nat_lt, Option, Some}
+use Rattle.std.proofs.Common.{None, is_some, option_map, refl, sym, ap, ◌∙◌, flat_map}
 use Rattle.std.specs.{List.AllByRecursion, List.find, List.list_any, Option.option_to_list, Str.bytes_eq}
 use Rattle.base_lists.proofs.{Each.all-weaker, Each.all-append, Any.any-alike, Filters.filter-alike, Filters.filter-same, Flat.flat-same}
 use Rattle.cdi_model.specs.Mentions.{Mention, TypeIn, UseOf, StereotypeOf, PointOf, CallOf, mentions}
@@ -15,9 +15,8 @@ use Rattle.cdi_model.specs.declared.mention.TypePlace.TheVariants as types_are
 use Rattle.cdi_model.specs.declared.place.BeanPlace.TheVariants as spots
 use Rattle.cdi_model.specs.declared.place.PartPlace.TheVariants as places
 use Rattle.cdi_bodies.specs.Book.{Promised}
-use Rattle.cdi_match.specs.{Chain.has, Covering.covers, Covering.covers_by, Filling.as_binding, Filling.as_qualifier, Misuse.misuses}
-use Rattle.cdi_match.specs.Types.{object}
-use Rattle.cdi_effective.specs.Beans.{entries, managed, product, records}
+use Rattle.cdi_match.specs.{Chain.has, Filling.as_binding, Filling.as_qualifier, Misuse.misuses, Types.object}
+use Rattle.cdi_effective.specs.Beans.{entries, managed, product}
 use Rattle.cdi_effective.specs.{Bindings.class_bindings, Disposers.disposes, Specialized.specialized, declared.records.BeanId.BeanId}
 use Rattle.cdi_effective.specs.{Qualifiers.cover_all, Qualifiers.required, Qualifiers.some_covers, declared.records.Effective.Effective}
 use Rattle.cdi_resolve.specs.declared.choice.Choice.{Choice}
@@ -28,7 +27,7 @@ use Rattle.cdi_faults.specs.declared.fault.Code.TheVariants as codes_of
 use Rattle.cdi_faults.specs.declared.fault.Subject.TheVariants as subjects
 use Rattle.cdi_subjects.proofs.AnsweredLemmas.{all-parts, each-given, each-own}
 use Rattle.cdi_subjects.proofs.RecordLemmas.{conditional_by_entries, disposers_of_records, typed_by_entries}
-use Rattle.cdi_subjects.specs.Filter.{found_in, is_enabled_in, producer_of_part, producer_of_point, some_if}
+use Rattle.cdi_subjects.specs.Filter.{found_in, is_enabled_in, producer_of_part, some_if}
 use Rattle.cdi_subjects.specs.Records.{conditional_by, conflict_at, conflicts_in, part_at, typed_by, with_two, without_product}
 use Rattle.cdi_subjects.specs.Rests.{AreAlike, DifferAlike, FaultsRestOn, HasQualifiersAlike, IsAnsweredAlike, IsBeanAlike, IsSeenAlike}
 use Rattle.cdi_subjects.specs.Rests.{AreProductsAlike, named_in, specialized_seen, types_and_name}
@@ -36,7 +35,7 @@ use Rattle.cdi_subjects.specs.Sites.{is_lost_among, lacks_method, lost_in, own_p
 use Rattle.cdi_subjects.specs.Specializing.{has_name, lacked_types, lacks_specialized, renames_specialized, specialized_bean, types_beyond}
 use Rattle.cdi_subjects.specs.Subjects.{bad_kind_in, bad_use_in, disposers_at_fault, form_of, has_verdict, is_class_form, is_interface_form}
 use Rattle.cdi_subjects.specs.Subjects.{is_known_in, point_in, scope_conflicts, subjects_at_fault, unknown_in, whole_if}
-use Rattle.cdi_subjects.specs.{Proxies.is_final_decl, Proxies.is_unproxyable, Proxies.needs_subclass, declared.points.Verdict.Verdict}
+use Rattle.cdi_subjects.specs.{Proxies.is_unproxyable, declared.points.Verdict.Verdict}
 use Rattle.cdi_subjects.specs.declared.points.Verdict.TheVariants as verdicts
 
 -- ---- what holds of each
@@ -55,9 +54,7 @@ known-same ds es other t e = ap (λ o. bytes_eq t object || is_some o) e
 
 unknown-same : (ds es : List Decl) (m : Mention) → AreAlike ds es (named_in m) → unknown_in ds m ≡ unknown_in es m
 unknown-same ds es (TypeIn place t) e = ap (λ b. some_if (not b) (subjects.Type t)) (known-same ds es place t e)
-unknown-same ds es (UseOf uses.Qualifier u) e =
-    ap (λ o. some_if (not (has (codes "Any" ∷ codes "Default" ∷ codes "Named" ∷ []) u.name || is_some o))
-    (subjects.Used uses.Qualifier u.name)) e
+unknown-same ds es (UseOf uses.Qualifier u) e = grind (arith, u.name)
 unknown-same ds es (UseOf uses.Binding u) e = ap (λ o. some_if (not (is_some o)) (subjects.Used uses.Binding u.name)) e
 unknown-same ds es (StereotypeOf s) e = ap (λ o. some_if (not (is_some o)) (subjects.Stereotype s)) e
 unknown-same ds es other e = refl
@@ -86,19 +83,13 @@ bad-use-same ds es other e = refl
 covered-same : (ds es : List Decl) (quals : List Qual) (want : Qual)
     → AllByRecursion (λ u. find_decl kinds.Qualifier u.name ds ≡ find_decl kinds.Qualifier u.name es) quals
     → some_covers ds quals want ≡ some_covers es quals want
-covered-same ds es quals want alike =
-    any-alike (λ have. covers ds uses.Qualifier have want) (λ have. covers es uses.Qualifier have want) quals
-    (all-weaker (λ u. find_decl kinds.Qualifier u.name ds ≡ find_decl kinds.Qualifier u.name es)
-    (λ have. covers ds uses.Qualifier have want ≡ covers es uses.Qualifier have want) quals
-    (λ have e. ap (λ o. covers_by (unwrap_or (option_map (λ d. d.members) (as_qualifier o)) []) have want) e) alike)
+covered-same ds es quals want alike = grind (arith, any-alike, all-weaker)
 
 cover-same : (ds es : List Decl) (quals asked : List Qual)
     → AllByRecursion (λ u. find_decl kinds.Qualifier u.name ds ≡ find_decl kinds.Qualifier u.name es) quals
     → cover_all ds quals asked ≡ cover_all es quals asked
 cover-same ds es quals [] alike = refl
-cover-same ds es quals (want ∷ asked) alike =
-    ap (λ b. b && cover_all ds quals asked) (covered-same ds es quals want alike)
-    ∙ ap (λ b. some_covers es quals want && b) (cover-same ds es quals asked alike)
+cover-same ds es quals (want ∷ asked) alike = grind (arith, cover-same ds es quals asked alike, covered-same)
 
 disposes-same : (ds es : List Decl) (s : DisposerDecl) (b : Effective) → HasQualifiersAlike ds es b → disposes ds b s ≡ disposes es b s
 disposes-same ds es s b alike =
@@ -152,11 +143,7 @@ conflicts-same ds es bean alike =
 -- ---- a specialized bean
 
 is-seen : (ds : List Decl) (bean : BeanDecl) → is_some (specialized_seen ds (decls.Bean bean)) ≡ is_some (specialized ds bean)
-is-seen ds bean = by (specialized ds bean)
-  where
-    by : (o : Option BeanDecl) → is_some (option_map types_and_name (option_map (managed ds) o)) ≡ is_some o
-    by None = refl
-    by (Some s) = refl
+is-seen ds bean = grind arith
 
 none-same : (ds es : List Decl) (d : Decl) → specialized_seen ds d ≡ specialized_seen es d → lacks_specialized ds d ≡ lacks_specialized es d
 none-same ds es (decls.Bean bean) seen =
@@ -171,9 +158,7 @@ beyond-same : (types : List (List ℕ)) (o p : Option Effective) → AreSeenAlik
 beyond-same types None None seen = refl
 beyond-same types None (Some c) seen = cc
 beyond-same types (Some b) None seen = cc
-beyond-same types (Some b) (Some c) seen =
-    let same : types_and_name b ≡ types_and_name c = cc in
-    ap (λ s. map subjects.Type (filter (λ t. not (has types t)) s.0)) same
+beyond-same types (Some b) (Some c) seen = grind arith
 
 name-same : (o p : Option Effective) → AreSeenAlike o p → has_name o ≡ has_name p
 name-same None None seen = refl
@@ -183,11 +168,7 @@ name-same (Some b) (Some c) seen = let same : types_and_name b ≡ types_and_nam
 
 types-same : (ds es : List Decl) (d : Decl) → entries ds d ≡ entries es d → specialized_seen ds d ≡ specialized_seen es d
     → lacked_types ds d ≡ lacked_types es d
-types-same ds es (decls.Bean bean) same seen =
-    let all : records ds bean ≡ records es bean = same in
-    let own : managed ds bean ≡ managed es bean = cc in
-    ap (λ b. types_beyond b.types (specialized_bean ds bean)) own
-    ∙ beyond-same (managed es bean).types (specialized_bean ds bean) (specialized_bean es bean) seen
+types-same ds es (decls.Bean bean) same seen = grind (arith, beyond-same)
 types-same ds es other same seen = refl
 
 renames-same : (ds es : List Decl) (d : Decl) → specialized_seen ds d ≡ specialized_seen es d
@@ -209,11 +190,7 @@ points-same : (ds es : List Decl) (t u : PointDecl → Choice → Bool) (bs : Li
     → found_in (point_in t (answer_to ds) bs d) ms ≡ found_in (point_in u (answer_to es) bs d) ms
 points-same ds es t u bs d alike [] names answers = refl
 points-same ds es t u bs d alike (PointOf place p ∷ ms) names answers =
-    let others = found_in (point_in t (answer_to ds) bs d) ms in
-    let enabled = is_enabled_in d bs (producer_of_point place) in
-    ap (λ b. option_to_list (some_if (enabled && b) (subjects.Point place p.name)) ++ others) (alike p names.0 answers.0)
-    ∙ ap (λ l. option_to_list (some_if (enabled && u p (answer_to es p)) (subjects.Point place p.name)) ++ l)
-    (points-same ds es t u bs d alike ms names.1 answers.1)
+    grind (arith, points-same ds es t u bs d alike ms names.1 answers.1, p.name, names.0, answers.0, names.1, answers.1)
 points-same ds es t u bs d alike (other ∷ ms) names answers = points-same ds es t u bs d alike ms names.1 answers
 
 proxy-same : (ds es : List Decl) (p : PointDecl) (c : Choice)
@@ -221,9 +198,7 @@ proxy-same : (ds es : List Decl) (p : PointDecl) (c : Choice)
     → ((id : BeanId) → c ≡ choices.One id → IsBeanAlike ds es id) → is_unproxyable ds p c ≡ is_unproxyable es p c
 proxy-same ds es p choices.Unsatisfied e alike = refl
 proxy-same ds es p (choices.Ambiguous ids) e alike = refl
-proxy-same ds es p (choices.One id) e alike =
-    ap (λ o. is_final_decl o && needs_subclass ds id) e
-    ∙ ap (λ b. is_final_decl (find_decl kinds.Type p.required_type es) && b) (alike id refl).subclass
+proxy-same ds es p (choices.One id) e alike = grind (arith, p.required_type)
 
 verdict-same : (ds es : List Decl) (v : Verdict) → IsTestAlike ds es (has_verdict ds v) (has_verdict es v)
 verdict-same ds es verdicts.Unsatisfied p e answered = ap (has_verdict ds verdicts.Unsatisfied p) answered.answer
@@ -242,14 +217,8 @@ lost-same : (ds es : List Decl) (method name : List ℕ) (ps : List PointDecl) �
     → is_lost_among ds method (option_map (answer_to ds) (find (λ p. bytes_eq p.name name) ps))
     ≡ is_lost_among es method (option_map (answer_to es) (find (λ p. bytes_eq p.name name) ps))
 lost-same ds es method name [] answers = refl
-lost-same ds es method name (p ∷ ps) answers = by (bytes_eq p.name name) (lost-same ds es method name ps answers.1)
-  where
-    by : (b : Bool) → is_lost_among ds method (option_map (answer_to ds) (find (λ p. bytes_eq p.name name) ps))
-        ≡ is_lost_among es method (option_map (answer_to es) (find (λ p. bytes_eq p.name name) ps))
-        → is_lost_among ds method (option_map (answer_to ds) (cond b (Some p) (find (λ p. bytes_eq p.name name) ps)))
-        ≡ is_lost_among es method (option_map (answer_to es) (cond b (Some p) (find (λ p. bytes_eq p.name name) ps)))
-    by true rest = lacks-same ds es method (answer_to ds p) answers.0.bean ∙ ap (lacks_method es method) answers.0.answer
-    by false rest = rest
+lost-same ds es method name (p ∷ ps) answers =
+    grind (arith, lost-same ds es method name ps answers.1, p.name, answers.1, answers.0.bean, answers.0.answer, lacks-same)
 
 seen-alike : (P : PointDecl → Type 0) (place : PartPlace) (own : List PointDecl) → AllByRecursion P own
     → AllByRecursion P (own_seen place own)
@@ -289,21 +258,14 @@ binding-same ds es book (decls.Bean bean) alike = conflicts-same ds es bean alik
 binding-same ds es book other alike = refl
 
 pub faults_rest_on : FaultsRestOn
-faults_rest_on codes_of.UnknownName ds es book d alike =
-    found-same (unknown_in ds) (unknown_in es) (mentions d)
-    (all-weaker (λ m. AreAlike ds es (named_in m)) (λ m. unknown_in ds m ≡ unknown_in es m) (mentions d) (unknown-same ds es) alike.names)
+faults_rest_on codes_of.UnknownName ds es book d alike = grind (arith, alike.names, found-same, all-weaker, unknown-same)
 faults_rest_on codes_of.Cycle ds es book d alike = ap whole_if alike.circle
-faults_rest_on codes_of.BadKind ds es book d alike =
-    found-same (bad_kind_in ds d) (bad_kind_in es d) (mentions d)
-    (all-weaker (λ m. AreAlike ds es (named_in m)) (λ m. bad_kind_in ds d m ≡ bad_kind_in es d m) (mentions d) (bad-kind-same ds es d)
-    alike.names)
+faults_rest_on codes_of.BadKind ds es book d alike = grind (arith, alike.names, found-same, all-weaker, bad-kind-same)
 faults_rest_on codes_of.Typed ds es book d alike =
     sym (typed_by_entries ds d) ∙ ap (typed_by d) alike.records ∙ typed_by_entries es d
 faults_rest_on codes_of.ScopeConflict ds es book d alike = ap scope_conflicts alike.records
 faults_rest_on codes_of.BindingConflict ds es book d alike = binding-same ds es book d alike.bindings
-faults_rest_on codes_of.Member ds es book d alike =
-    found-same (bad_use_in ds) (bad_use_in es) (mentions d)
-    (all-weaker (λ m. AreAlike ds es (named_in m)) (λ m. bad_use_in ds m ≡ bad_use_in es m) (mentions d) (bad-use-same ds es) alike.names)
+faults_rest_on codes_of.Member ds es book d alike = grind (arith, alike.names, found-same, all-weaker, bad-use-same)
 faults_rest_on codes_of.Disposer ds es book d alike = disposers-same ds es d alike.records alike.qualifiers
 faults_rest_on codes_of.ConditionalDependent ds es book d alike =
     sym (conditional_by_entries ds d) ∙ ap (conditional_by d) alike.records ∙ conditional_by_entries es d
