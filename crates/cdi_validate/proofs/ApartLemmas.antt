@@ -1,7 +1,7 @@
 -- Lists of which each is apart from the later ones.
 use Rattle.cdi_validate.proofs.Common.{◌≡◌, List, ◌++◌, sym, ap, ◌∙◌, flat_map, ◌≢◌, ◌<◌, ℕ, zero, suc, Bool, true, false, cond, [], ◌∷◌}
-use Rattle.cdi_validate.proofs.Common.{length, map, filter, Ordering, Less, Equal, refl, arith, AllByRecursion, AllPairs}
-use Rattle.cdi_validate.proofs.Common.{IsStrictlySortedBy, tied_itself, all-weaker, all-append, all-back}
+use Rattle.cdi_validate.proofs.Common.{length, map, filter, Ordering, refl, arith, AllByRecursion, AllPairs, IsStrictlySortedBy}
+use Rattle.cdi_validate.proofs.Common.{tied_itself, all-weaker, all-append, all-back}
 use Rattle.std.specs.{List.slice_index_or, Cmp.IsTotalOrder}
 use Rattle.base_lists.proofs.Each.{all-front, all-filter}
 
@@ -41,11 +41,7 @@ apart-more R S more (x ∷ xs) apart = (all-weaker (R x) (S x) xs (more x) apart
 
 pub apart-filter : {X : Type 0} (R : X → X → Type 0) (test : X → Bool) (xs : List X) → Apart R xs → Apart R (filter test xs)
 apart-filter R test [] apart = tt
-apart-filter R test (x ∷ xs) apart = by (test x) (apart-filter R test xs apart.1)
-  where
-    by : (b : Bool) → Apart R (filter test xs) → Apart R (cond b (x ∷ filter test xs) (filter test xs))
-    by true rest = (all-filter (R x) test xs apart.0, rest)
-    by false rest = rest
+apart-filter R test (x ∷ xs) apart = grind (arith, apart-filter R test xs apart.1, apart.1, apart.0, all-filter)
 
 pub all-map : {X Y : Type 0} (P : Y → Type 0) (f : X → Y) (xs : List X) → AllByRecursion (λ x. P (f x)) xs → AllByRecursion P (map f xs)
 all-map P f [] all = tt
@@ -113,10 +109,7 @@ Differ xs = Apart (λ x y. x ≢ y) xs
 
 pub differ-map : {X Y : Type 0} (f : X → Y) → ((x y : X) → f x ≡ f y → x ≡ y) → (xs : List X) → Differ xs → Differ (map f xs)
 differ-map f one [] differ = tt
-differ-map f one (x ∷ xs) differ = (
-  all-map (λ y. f x ≢ y) f xs (all-weaker (λ y. x ≢ y) (λ y. f x ≢ f y) xs (λ y other e. other (one x y e)) differ.0),
-  differ-map f one xs differ.1,
-)
+differ-map f one (x ∷ xs) differ = grind (arith, differ-map f one xs differ.1, differ.0, differ.1, all-map, all-weaker)
 
 -- what has one tag differs from what has another
 module _ {X T : Type 0} (tag : X → T) where
@@ -125,11 +118,8 @@ module _ {X T : Type 0} (tag : X → T) where
 
   pub differ-append : (t : T) (xs ys : List X) → Tagged t xs → AllByRecursion (λ y. tag y ≢ t) ys → Differ xs → Differ ys → Differ (xs ++ ys)
   differ-append t [] ys tagged others apart rest = rest
-  differ-append t (x ∷ xs) ys tagged others apart rest = (
-    all-append (λ y. x ≢ y) xs ys apart.0 (all-weaker (λ y. tag y ≢ t) (λ y. x ≢ y) ys (λ y other e. other (sym (ap tag e) ∙ tagged.0))
-        others),
-    differ-append t xs ys tagged.1 others apart.1 rest,
-  )
+  differ-append t (x ∷ xs) ys tagged others apart rest =
+      grind (arith, differ-append t xs ys tagged.1 others apart.1 rest, apart.0, tagged.0, tagged.1, apart.1, all-append, all-weaker)
 
   module _ {D : Type 0} (f : D → List X) (key : D → T) (tagged : (d : D) → Tagged (key d) (f d)) where
     -- none of these has the tag
@@ -151,13 +141,7 @@ module _ {X T : Type 0} (tag : X → T) where
 pub rising-differ : {X : Type 0} {order : X → X → Ordering} → IsTotalOrder order → (xs : List X) → IsStrictlySortedBy order xs → Differ xs
 unfolding IsStrictlySortedBy
 rising-differ total [] rise = tt
-rising-differ {order = order} total (x ∷ xs) rise = (
-  all-weaker (λ y. order x y ≡ Less) (λ y. x ≢ y) xs (λ y less e. not_before (ap (order x) e ∙ less)) rise.0,
-  rising-differ total xs rise.1,
-)
-  where
-    not_before : order x x ≡ Less → ⊥
-    not_before less = let no : Less ≡ Equal = sym less ∙ tied_itself total x in absurd (cc)
+rising-differ {order = order} total (x ∷ xs) rise = grind (arith, rising-differ total xs rise.1, rise.0, rise.1, all-weaker, tied_itself)
 
 -- what differs by its texts differs
 pub differ-by : {X Y : Type 0} (f : X → Y) (xs : List X) → Differ (map f xs) → Differ xs

@@ -1,16 +1,15 @@
 -- Of a reported pair of names the second is the first, a dot and a text, which is a name where the second is one by the grammar.
 use Rattle.cdi_validate.proofs.Common.{◌≡◌, List, ◌++◌, sym, ap, ◌∙◌, flat_map, beans, circles, faults, faults_of, name_clashes}
-use Rattle.cdi_validate.proofs.Common.{name_prefixes, specialized_twice, ℕ, Bool, true, false, [], ◌∷◌, length, map, filter, refl, arith}
-use Rattle.cdi_validate.proofs.Common.{AllByRecursion, ◌≤◌, nat_eq, ◌==◌, and_parts, eqb-true, false≢true, le-leb, leb-true, dot, begins}
-use Rattle.cdi_validate.proofs.Common.{continues, is_letter, is_name, is_word, Fault, enabled_names, nat_le, all-weaker, all-append}
+use Rattle.cdi_validate.proofs.Common.{name_prefixes, specialized_twice, ℕ, Bool, true, false, [], ◌∷◌, length, map, filter, arith}
+use Rattle.cdi_validate.proofs.Common.{AllByRecursion, ◌≤◌, nat_eq, and_parts, eqb-true, false≢true, le-leb, leb-true, dot, begins}
+use Rattle.cdi_validate.proofs.Common.{continues, is_letter, is_name, Fault, enabled_names, nat_le, all-weaker, all-append, goes_on}
 use Rattle.std.proofs.lemmas.List.Elements.{All-from_recursion, recursion_from_All, All-contains, filter_passes}
 use Rattle.std.proofs.lemmas.Bool.{and_from}
 use Rattle.cdi_model.specs.Grammar.{goes_on as continues_name}
 use Rattle.cdi_faults.specs.declared.fault.Fault.TheVariants as faults_are
-use Rattle.cdi_validate.proofs.ApartLemmas.{all-map}
+use Rattle.cdi_validate.proofs.{ApartLemmas.all-map, TwiceLemmas.twice-each}
 use Rattle.cdi_validate.proofs.OnceLemmas.{circles-each, clashes-tagged, declared-tagged, is-declared}
-use Rattle.cdi_validate.proofs.TwiceLemmas.{twice-each}
-use Rattle.cdi_validate.specs.Faults.{goes_on, IsNameBehind, PrefixesGoOn}
+use Rattle.cdi_validate.specs.Faults.{IsNameBehind, PrefixesGoOn}
 
 -- ---- names
 
@@ -19,12 +18,7 @@ begins-behind : (starts : Bool) (x z : List ℕ) → continues starts (x ++ dot 
 begins-behind true [] z is = absurd (false≢true is)
 begins-behind false [] z is = is
 begins-behind true (b ∷ x) z is = begins-behind false x z (and_parts (is_letter b) (continues_name (x ++ dot ∷ z)) is).1
-begins-behind false (b ∷ x) z is = by (b == dot) refl (begins-behind true x z) (begins-behind false x z)
-  where
-    by : (t : Bool) → (b == dot) ≡ t → (begins (x ++ dot ∷ z) ≡ true → begins z ≡ true)
-        → (continues_name (x ++ dot ∷ z) ≡ true → begins z ≡ true) → begins z ≡ true
-    by true e whole rest = whole (rw e at is)
-    by false e whole rest = rest (and_parts (is_word b) (continues_name (x ++ dot ∷ z)) (rw e at is)).1
+begins-behind false (b ∷ x) z is = grind (arith, begins-behind true x z, begins-behind false x z)
 
 longer : (x z : List ℕ) → length z ≤ length (x ++ dot ∷ z)
 longer [] z = omega arith
@@ -46,9 +40,7 @@ parted (a ∷ x) (b ∷ y) is =
     (behind.0, ap (λ c. c ∷ y) (sym (eqb-true a b same)) ∙ ap (λ bs. a ∷ bs) behind.1)
 
 is_behind : (x y : List ℕ) → goes_on x y ≡ true → IsNameBehind x y
-is_behind x y is =
-    let behind = parted x y is in
-    record { rest = behind.0; joined = behind.1; named = λ named. name-behind x behind.0 (ap is_name (sym behind.1) ∙ named) }
+is_behind x y is = grind (arith, parted, name-behind)
 
 -- ---- faults
 

@@ -1,15 +1,13 @@
 -- Declarations of which no two enabled beans specialize one.
 use Rattle.cdi_validate.proofs.Common.{all-weaker, flat-filter, ◌≡◌, List, ◌++◌, sym, ap, ◌∙◌, append_assoc, flat_map, Decl}
-use Rattle.cdi_validate.proofs.Common.{specialized_twice, ℕ, Bool, true, false, cond, [], ◌∷◌, length, map, filter, refl, AllByRecursion}
-use Rattle.cdi_validate.proofs.Common.{AllPairs, eqb-true, false≢true, Fault, not, ◌&&◌, subst, find, option_to_list, bytes_eq, or_left}
-use Rattle.cdi_validate.proofs.Common.{nil_from_length, filter-append, AreDistinct, BeanDecl, has, records_in, chain, class_names}
-use Rattle.cdi_validate.proofs.Common.{text_of_fault, IsAlike, is_first_enabled, same_text, specializing, specializing_by, is_chainless}
-use Rattle.cdi_validate.proofs.Common.{enabled_bean, enabled_beans, faults_of_pairs, faults_of_two, in_line_order, of_pairs, twice}
+use Rattle.cdi_validate.proofs.Common.{specialized_twice, ℕ, Bool, true, false, cond, [], ◌∷◌, map, filter, refl, AllByRecursion, AllPairs}
+use Rattle.cdi_validate.proofs.Common.{eqb-true, false≢true, Fault, not, ◌&&◌, subst, find, option_to_list, bytes_eq, or_left}
+use Rattle.cdi_validate.proofs.Common.{nil_from_length, filter-append, AreDistinct, BeanDecl, has, chain, class_names, text_of_fault}
+use Rattle.cdi_validate.proofs.Common.{IsAlike, same_text, specializing, specializing_by, is_chainless, enabled_bean, enabled_beans}
+use Rattle.cdi_validate.proofs.Common.{faults_of_pairs, faults_of_two, in_line_order, of_pairs, twice, arith}
 use Rattle.cdi_model.specs.declared.decl.Decl.TheVariants as decls
 use Rattle.cdi_validate.proofs.ApartLemmas.{Apart, apart-by, apart-filter, apart-more, apart-pairs, flat-all, flat-same, pairs-apart}
-use Rattle.cdi_validate.proofs.ApartLemmas.{pairs-left}
-use Rattle.cdi_validate.proofs.FoundLemmas.{bean-records}
-use Rattle.cdi_validate.proofs.LinkLemmas.{filtered, specializing-own}
+use Rattle.cdi_validate.proofs.{ApartLemmas.pairs-left, FoundLemmas.bean-records, LinkLemmas.filtered, LinkLemmas.specializing-own}
 use Rattle.cdi_validate.proofs.TwiceLemmas.{behind_two, both-apart, lines_of, lines-told, pairs-behind, two-of-enabled}
 use Rattle.cdi_validate.specs.Together.{HaveNoneTwice}
 
@@ -20,10 +18,7 @@ AreFaultless ds a b = faults_of_two ds a b ≡ []
 -- ---- declarations that are alike
 
 specializing-alike : (ds es : List Decl) (d : Decl) → IsAlike ds es d → specializing_by ds d ≡ specializing_by es d
-specializing-alike ds es (decls.Bean b) alike =
-    let same : records_in ds b.name ≡ records_in es b.name = bean-records ds b alike.before ∙ sym alike.records
-    ∙ sym (bean-records es b alike.after) in
-    ap (λ bs. cond (b.specializes && is_first_enabled bs) (b ∷ []) []) same
+specializing-alike ds es (decls.Bean b) alike = grind (arith, b.name, alike.before, alike.records, alike.after, b.specializes, bean-records)
 specializing-alike ds es other alike = refl
 
 -- the bean has the same chain
@@ -31,11 +26,7 @@ abbrev HasSameChain : List Decl → List Decl → BeanDecl → Type 0
 HasSameChain ds es b = chain es b ≡ chain ds b
 
 same-chains : (ds es : List Decl) (d : Decl) → IsAlike ds es d → AllByRecursion (HasSameChain ds es) (specializing_by ds d)
-same-chains ds es (decls.Bean b) alike = by (b.specializes && is_first_enabled (records_in ds b.name))
-  where
-    by : (t : Bool) → AllByRecursion (HasSameChain ds es) (cond t (b ∷ []) [])
-    by true = (alike.chains b refl, tt)
-    by false = tt
+same-chains ds es (decls.Bean b) alike = grind (arith, b.specializes, b.name, alike.chains)
 same-chains ds es other alike = tt
 
 -- the fault of two beans with these chains
@@ -65,10 +56,7 @@ twice_filtered ds own p none = pairs-left (specializing_by ds) p (AreFaultless d
 -- they have none with those that are left out, where these say of no bean that it specializes another
 pub twice_whole : (ds own : List Decl) (p : Decl → Bool) → AllByRecursion (λ d. p d ≡ false → is_chainless ds d ≡ true) own
     → HaveNoneTwice ds (filter p own) → HaveNoneTwice ds own
-twice_whole ds own p chainless none =
-    let nothing : AllByRecursion (λ d. p d ≡ false → specializing_by ds d ≡ []) own =
-    all-weaker (λ d. p d ≡ false → is_chainless ds d ≡ true) (λ d. p d ≡ false → specializing_by ds d ≡ []) own (λ d empty out. nil_from_length (specializing_by ds d) (eqb-true (length (specializing_by ds d)) 0 (empty out))) chainless in
-    subst (AllPairs (AreFaultless ds)) (flat-filter (specializing_by ds) p own nothing) none
+twice_whole ds own p chainless none = grind (arith, all-weaker, nil_from_length, eqb-true, flat-filter)
 
 -- ---- all declarations
 

@@ -2,11 +2,11 @@
 use Rattle.cdi_validate.proofs.Common.{◌≡◌, List, sym, ap, ◌∙◌, Decl, beans, circles, ℕ, zero, suc, cond, [], ◌∷◌, length, map, filter}
 use Rattle.cdi_validate.proofs.Common.{refl, arith, has, BTreeMap, keys, keys_of, filter_agree, Circle, leads, Steps, Edges, is_on_circle}
 use Rattle.cdi_validate.proofs.Common.{BeanId, between, circular, dependents, dependents_by_text, needed_by, needs, needs_itself, circle}
+use Rattle.cdi_validate.proofs.Common.{next_in}
 use Rattle.std.specs.Bool.{Decides}
 use Rattle.std.proofs.lemmas.Bool.Decides.{same_from_decides, Decides-like}
 use Rattle.cdi_match.specs.Chain.{ChainFromOne, LeaveOnly, reaches_from_one}
 use Rattle.cdi_match.proofs.Chains.{reaches_from_one_decides}
-use Rattle.cdi_circles.specs.Edges.{next_in}
 use Rattle.cdi_circles.proofs.EdgeLemmas.{circle_decides}
 use Rattle.cdi_validate.proofs.NeedLemmas.{between-like, has-by_text}
 use Rattle.cdi_validate.specs.Circles.{next, NeedsItselfOnCircle}

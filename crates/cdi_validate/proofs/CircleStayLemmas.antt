@@ -1,22 +1,20 @@
 -- Declarations without a circle have none where some are left out, and where edits leave them alike.
 use Rattle.cdi_validate.proofs.Common.{◌≡◌, List, ◌++◌, sym, ap, ◌∙◌, flat_map, Decl, ℕ, zero, suc, Bool, true, false, cond, [], ◌∷◌}
 use Rattle.cdi_validate.proofs.Common.{length, map, filter, refl, AllByRecursion, and_parts, false≢true, dot, begins, is_letter, is_name}
-use Rattle.cdi_validate.proofs.Common.{is_word, ◌&&◌, subst, option_to_list, bytes_eq, or_left, AreDistinct, BeanDecl, has, same_text}
-use Rattle.cdi_validate.proofs.Common.{IsAlike, Circle, leads, Steps, between, dependents, needed_by, Some, ◌⊎◌, inl, inr, append-nil}
-use Rattle.cdi_validate.proofs.Common.{nat_le, slice_get, and-false, or_cases, or_right, same_Some, slash, name_of_decl, find_decl}
-use Rattle.cdi_validate.proofs.Common.{InterceptorDecl, PointDecl, BeanPlace, Mention, PointOf, mentions, effective, one_text, entries}
-use Rattle.cdi_validate.proofs.Common.{managed, product_where, text_of_id, as_bean, find_bean, Effective, own-found, is_enabled}
-use Rattle.cdi_validate.proofs.Common.{stands_around, answer_to, names_of_bean, point_named, stands-named, points-declared, Need}
-use Rattle.cdi_validate.proofs.Common.{chosen_for, chosen_one, is_dependent, managed_id, need_around, need_in, needs_in, dependents_in}
-use Rattle.cdi_validate.proofs.Common.{HaveNoCircle, ◌==◌}
-use Rattle.std.proofs.lemmas.Bool.{cases_Bool}
+use Rattle.cdi_validate.proofs.Common.{is_word, ◌&&◌, subst, bytes_eq, or_left, AreDistinct, BeanDecl, has, same_text, IsAlike, Circle}
+use Rattle.cdi_validate.proofs.Common.{leads, Steps, between, dependents, needed_by, Some, ◌⊎◌, inl, inr, append-nil, nat_le, slice_get}
+use Rattle.cdi_validate.proofs.Common.{and-false, or_cases, or_right, same_Some, slash, name_of_decl, find_decl, InterceptorDecl, PointDecl}
+use Rattle.cdi_validate.proofs.Common.{BeanPlace, Mention, PointOf, mentions, effective, one_text, entries, managed, product_where}
+use Rattle.cdi_validate.proofs.Common.{text_of_id, as_bean, find_bean, Effective, own-found, is_enabled, stands_around, answer_to}
+use Rattle.cdi_validate.proofs.Common.{names_of_bean, point_named, stands-named, points-declared, Need, chosen_for, is_dependent}
+use Rattle.cdi_validate.proofs.Common.{managed_id, need_around, need_in, needs_in, dependents_in, HaveNoCircle, ◌==◌, arith}
 use Rattle.cdi_model.specs.Grammar.{goes_on}
 use Rattle.cdi_model.specs.declared.decl.Decl.TheVariants as decls
 use Rattle.cdi_model.specs.declared.decl.Kind.TheVariants as kinds
 use Rattle.cdi_intercept.specs.Sets.{has_place, places_of}
 use Rattle.cdi_observe.specs.Around.{names_at}
 use Rattle.cdi_observe.proofs.{AroundLemmas.told-names, AroundLemmas.told-same, BeanPlaceLemmas.has-each_place}
-use Rattle.cdi_validate.specs.{Circles.bean_of_point, Together.next_in}
+use Rattle.cdi_validate.specs.{Together.next_in}
 
 -- ---- what is in a list
 
@@ -36,10 +34,7 @@ has-behind (v ∷ xs) ys x h = inr (has-behind xs ys x h)
 has-parts : {X : Type 0} (xs ys : List X) (x : X) → Has (xs ++ ys) x → Has xs x ⊎ Has ys x
 has-parts [] ys x h = inr h
 has-parts (v ∷ xs) ys x (inl e) = inl (inl e)
-has-parts (v ∷ xs) ys x (inr h) = elim (has-parts xs ys x h) [
-  | inl front ↦ inl (inr front)
-  | inr behind ↦ inr behind
-]
+has-parts (v ∷ xs) ys x (inr h) = grind (arith, has-parts xs ys x h)
 
 -- in what is made of each element
 flat-from : {X Y : Type 0} (f : X → List Y) (xs : List X) (y : Y) → Has (flat_map f xs) y → (x : X) × Has xs x × Has (f x) y
@@ -57,29 +52,17 @@ flat-to f (v ∷ xs) x y (inr h) of_x = has-behind (f v) (flat_map f xs) y (flat
 -- among those that pass a test
 kept-from : {X : Type 0} (p : X → Bool) (xs : List X) (x : X) → Has (filter p xs) x → Has xs x × (p x ≡ true)
 kept-from p [] x h = absurd h
-kept-from {X = X} p (v ∷ xs) x h = by (p v) refl h (kept-from p xs x)
-  where
-    by : (b : Bool) → p v ≡ b → Has (cond b (v ∷ filter p xs) (filter p xs)) x → (Has (filter p xs) x → Has xs x × (p x ≡ true))
-        → Has (v ∷ xs) x × (p x ≡ true)
-    by true e (inl here) rest = (inl here, subst (λ w. p w ≡ true) here e)
-    by true e (inr there) rest = let (at, passes) = rest there in (inr at, passes)
-    by false e there rest = let (at, passes) = rest there in (inr at, passes)
+kept-from {X = X} p (v ∷ xs) x h = grind (arith, kept-from p xs x)
 
 kept-to : {X : Type 0} (p : X → Bool) (xs : List X) (x : X) → Has xs x → p x ≡ true → Has (filter p xs) x
 kept-to p [] x h passes = absurd h
 kept-to {X = X} p (v ∷ xs) x (inl e) passes =
     subst (λ (b : Bool). Has (cond b (v ∷ filter p xs) (filter p xs)) x) (sym (ap p e ∙ passes)) (inl e)
-kept-to {X = X} p (v ∷ xs) x (inr h) passes = by (p v) (kept-to p xs x h passes)
-  where
-    by : (b : Bool) → Has (filter p xs) x → Has (cond b (v ∷ filter p xs) (filter p xs)) x
-    by true rest = inr rest
-    by false rest = rest
+kept-to {X = X} p (v ∷ xs) x (inr h) passes = grind (arith, kept-to p xs x h passes)
 
 -- what is made of those is made of all
 flat-kept : {X Y : Type 0} (f : X → List Y) (p : X → Bool) (xs : List X) (y : Y) → Has (flat_map f (filter p xs)) y → Has (flat_map f xs) y
-flat-kept f p xs y h =
-    let (x, at, of_x) = flat-from f (filter p xs) y h in
-    flat-to f xs x y (kept-from p xs x at).0 of_x
+flat-kept f p xs y h = grind (arith, flat-from, flat-to, kept-from)
 
 mapped-from : {X Y : Type 0} (f : X → Y) (xs : List X) (y : Y) → Has (map f xs) y → (x : X) × Has xs x × (f x ≡ y)
 mapped-from f [] y h = absurd h
@@ -127,11 +110,7 @@ record IsEdge (nodes : List (List ℕ)) (all : List Need) (x y : List ℕ) : Typ
   needs : Has need.1 y
 
 of-text : (need : Need) (x y : List ℕ) → Has (cond (bytes_eq need.0 x) need.1 []) y → (need.0 ≡ x) × Has need.1 y
-of-text need x y h = by (bytes_eq need.0 x) refl h
-  where
-    by : (b : Bool) → bytes_eq need.0 x ≡ b → Has (cond b need.1 []) y → (need.0 ≡ x) × Has need.1 y
-    by true e h = (one_text need.0 x e, h)
-    by false e h = absurd h
+of-text need x y h = grind (arith, need.0, need.1, one_text)
 
 edge-from : (nodes : List (List ℕ)) (all : List Need) (x y : List ℕ) → leads (between nodes all) x y ≡ true → IsEdge nodes all x y
 edge-from nodes all x y h = by (has nodes x) refl h
@@ -170,10 +149,7 @@ record IsNode (bs : List Effective) (x : List ℕ) : Type 0 where
   text : text_of_id bean.id ≡ x
 
 node-from : (bs : List Effective) (x : List ℕ) → Has (dependents bs) x → IsNode bs x
-node-from bs x h =
-    let (b, at, is) = mapped-from (λ (b : Effective). text_of_id b.id) (filter is_dependent bs) x h in
-    let (there, dependent) = kept-from is_dependent bs b at in
-    record { bean = b; among = there; dependent = dependent; text = is }
+node-from bs x h = grind (arith, mapped-from, kept-from)
 
 node-to : (bs : List Effective) (x : List ℕ) → IsNode bs x → Has (dependents bs) x
 node-to bs x node =
@@ -196,23 +172,10 @@ circle-more next other more x circle = (circle.0, steps-more next other more (su
 
 module _ (ds own : List Decl) (p : Decl → Bool) where
   node-kept : (x : List ℕ) → Has (dependents_in ds (filter p own)) x → Has (dependents_in ds own) x
-  node-kept x h =
-      let node = node-from (flat_map (entries ds) (filter p own)) x h in
-      node-to (flat_map (entries ds) own) x
-      (record { bean = node.bean; among = flat-kept (entries ds) p own node.bean node.among; dependent = node.dependent; text = node.text })
+  node-kept x h = grind (arith, node-from, node-to, flat-kept)
 
   edge-kept : (x y : List ℕ) → leads (next_in ds (filter p own)) x y ≡ true → leads (next_in ds own) x y ≡ true
-  edge-kept x y h =
-      let edge = edge-from (dependents_in ds (filter p own)) (flat_map (needs_in ds) (filter p own)) x y h in
-      edge-to (dependents_in ds own) (flat_map (needs_in ds) own) x y
-      (record {
-        start = node-kept x edge.start;
-        end = node-kept y edge.end;
-        need = edge.need;
-        among = flat-kept (needs_in ds) p own edge.need edge.among;
-        first = edge.first;
-        needs = edge.needs;
-      })
+  edge-kept x y h = grind (arith, edge-from, edge-to, node-kept, flat-kept)
 
 -- what has no circle has none where some are left out
 pub circle_filtered : (ds own : List Decl) (p : Decl → Bool) → HaveNoCircle ds own → HaveNoCircle ds (filter p own)
@@ -243,19 +206,14 @@ no-slash name xs ys is e =
 chosen-same : (ds es : List Decl) (points : List PointDecl) → AllByRecursion (λ point. answer_to ds point ≡ answer_to es point) points
     → chosen_for es points ≡ chosen_for ds points
 chosen-same ds es [] all = refl
-chosen-same ds es (point ∷ points) all =
-    ap (λ c. chosen_one c ++ chosen_for es points) (sym all.0)
-    ∙ ap (λ cs. chosen_one (answer_to ds point) ++ cs) (chosen-same ds es points all.1)
+chosen-same ds es (point ∷ points) all = grind (arith, chosen-same ds es points all.1, all.0, all.1)
 
 -- so the beans of a declaration need the same for what it names
 named-same : (ds es : List Decl) (b : BeanDecl) (ms : List Mention)
     → AllByRecursion (λ point. answer_to ds point ≡ answer_to es point) (flat_map point_named ms)
     → flat_map (need_in es b) ms ≡ flat_map (need_in ds b) ms
 named-same ds es b [] all = refl
-named-same ds es b (PointOf place point ∷ ms) all =
-    ap (λ choice. map (λ id. (text_of_id id, chosen_one choice)) (option_to_list (bean_of_point b place)) ++ flat_map (need_in es b) ms)
-    (sym all.0)
-    ∙ ap (λ more. need_in ds b (PointOf place point) ++ more) (named-same ds es b ms all.1)
+named-same ds es b (PointOf place point ∷ ms) all = grind (arith, named-same ds es b ms all.1, all.0, all.1)
 named-same ds es b (other ∷ ms) all = ap (λ more. need_in es b other ++ more) (named-same ds es b ms all)
 
 own-same : (ds es : List Decl) (b : BeanDecl) → IsAlike ds es (decls.Bean b) → needs_in es (decls.Bean b) ≡ needs_in ds (decls.Bean b)
@@ -264,9 +222,7 @@ own-same ds es b alike = named-same ds es b (mentions (decls.Bean b)) alike.answ
 -- and the same is chosen for the points of an interceptor
 given-same : (ds es : List Decl) (i : InterceptorDecl) → IsAlike ds es (decls.Interceptor i)
     → chosen_for es i.points ≡ chosen_for ds i.points
-given-same ds es i alike =
-    chosen-same ds es i.points
-    (subst (AllByRecursion (λ point. answer_to ds point ≡ answer_to es point)) (points-declared (decls.Interceptor i)) alike.answers)
+given-same ds es i alike = grind (arith, i.points, alike.answers, chosen-same, points-declared)
 
 -- ---- the same interceptors are around a bean
 
@@ -319,9 +275,7 @@ product-text : (ds : List Decl) (b : BeanDecl) (offered : Bool) (text : List ℕ
     → Has (map (product_where ds b offered) b.producers) r → text_of_id r.id ≡ text
     → (name : List ℕ) × (b.name ++ slash ∷ name ≡ text)
 unfolding effective
-product-text ds b offered text r h is =
-    let (q, at, made) = mapped-from (product_where ds b offered) b.producers r h in
-    (q.name, ap (λ (r : Effective). text_of_id r.id) made ∙ is)
+product-text ds b offered text r h is = grind (arith, b.producers, r.id, mapped-from)
 
 -- each other declaration than those that pass a test has a name by the grammar
 abbrev pub AreNamedOutside : List Decl → (Decl → Bool) → Type 0
@@ -359,13 +313,7 @@ module _ (ds es : List Decl) (p : Decl → Bool) (distinct : AreDistinct ds) (di
   -- so a declared bean that is a node is one of them
   bean-own : (b : BeanDecl) → Has es (decls.Bean b) → Has (dependents_in es (filter p es)) (text_of_id (managed_id b))
       → Has (filter p es) (decls.Bean b)
-  bean-own b at h = elim (cases_Bool (p (decls.Bean b))) [
-    | inl own ↦ kept-to p es (decls.Bean b) at own
-    | inr out ↦
-        let node = node-from (flat_map (entries es) (filter p es)) (text_of_id (managed_id b)) h in
-        let (d, own, of_d) = flat-from (entries es) (filter p es) node.bean node.among in
-        absurd (no-other b at out d own node.bean of_d (node.text ∙ append-nil b.name))
-  ]
+  bean-own b at h = grind (arith, b.name, kept-to, node-from, flat-from, no-other, append-nil)
 
   -- what an interceptor gives a node to need it gave it before
   need-around : (i : InterceptorDecl) → Has (filter p es) (decls.Interceptor i) → (need : Need)
@@ -393,9 +341,7 @@ module _ (ds es : List Decl) (p : Decl → Bool) (distinct : AreDistinct ds) (di
       → Has (needs_in ds d) need
   need-before (decls.Bean b) own need node h =
       subst (λ ns. Has ns need) (own-same ds es b (alike-one (decls.Bean b) own)) h
-  need-before (decls.Interceptor i) own need node h =
-      let (e, at, of_e) = flat-from (need_around es i (chosen_for es i.points)) es need h in
-      need-around i own need node e at of_e
+  need-before (decls.Interceptor i) own need node h = grind (arith, i.points, flat-from, need-around)
   need-before other own need node h = absurd h
 
   node-before : (x : List ℕ) → Has (dependents_in es (filter p es)) x → Has (dependents_in ds (filter p ds)) x
@@ -404,21 +350,7 @@ module _ (ds es : List Decl) (p : Decl → Bool) (distinct : AreDistinct ds) (di
       (subst (λ rs. Has (dependents rs) x) (records-same ds es (filter p es) alike) h)
 
   edge-before : (x y : List ℕ) → leads (next_in es (filter p es)) x y ≡ true → leads (next_in ds (filter p ds)) x y ≡ true
-  edge-before x y h =
-      let edge = edge-from (dependents_in es (filter p es)) (flat_map (needs_in es) (filter p es)) x y h in
-      let (d, own, of_d) = flat-from (needs_in es) (filter p es) edge.need edge.among in
-      let nodes = dependents_in es (filter p es) in
-      let node : Has nodes edge.need.0 = subst (Has nodes) (sym edge.first) edge.start in
-      edge-to (dependents_in ds (filter p ds)) (flat_map (needs_in ds) (filter p ds)) x y
-      (record {
-        start = node-before x edge.start;
-        end = node-before y edge.end;
-        need = edge.need;
-        among = flat-to (needs_in ds) (filter p ds) d edge.need (subst (λ own. Has own d) (sym same) own)
-            (need-before d own edge.need node of_d);
-        first = edge.first;
-        needs = edge.needs;
-      })
+  edge-before x y h = grind (arith, edge-from, flat-from, edge-to, node-before, flat-to, need-before)
 
 -- some declarations that edits leave alike have no circle after them where they had none before, if the others have names by the grammar
 pub circle_stays : (ds es : List Decl) (p : Decl → Bool) → AreDistinct ds → AreDistinct es → filter p ds ≡ filter p es

@@ -8,7 +8,7 @@ use Rattle.cdi_validate.proofs.Common.{name_of_decl, find_decl, InterceptorDecl,
 use Rattle.cdi_validate.proofs.Common.{entries, product_where, text_of_id, Effective, own-found, is_enabled, stands_around, names_of_bean}
 use Rattle.cdi_validate.proofs.Common.{stands-named, Need, chosen_for, is_dependent, managed_id, need_around, need_in, needs_in}
 use Rattle.cdi_validate.proofs.Common.{dependents_in, HaveNoCircle, ◌||◌, Option, None, list_any, none-some, Qual, is_replaced, is_empty}
-use Rattle.cdi_validate.proofs.Common.{is_needless, AreNamed, all-each, all-append, flat-empty}
+use Rattle.cdi_validate.proofs.Common.{is_needless, AreNamed, all-each, all-append, flat-empty, arith}
 use Rattle.std.proofs.lemmas.Bool.{false_from_ne_true}
 use Rattle.base_lists.proofs.{Each.all-at, Any.any-flat_map, Any.any-more}
 use Rattle.cdi_model.specs.Grammar.{goes_on as continues_name}
@@ -23,10 +23,8 @@ use Rattle.cdi_model.specs.declared.mention.PointPlace.TheVariants as points
 use Rattle.cdi_model.specs.declared.mention.TypePlace.TheVariants as places
 use Rattle.cdi_model.specs.declared.place.PartPlace.TheVariants as parts
 use Rattle.cdi_effective.specs.{Beans.records_where, BeanText.text_of_producer}
-use Rattle.cdi_validate.proofs.ApartLemmas.{all-map}
+use Rattle.cdi_validate.proofs.{ApartLemmas.all-map, NeedLemmas.has-by_text, CircleStayLemmas.stands-enabled}
 use Rattle.cdi_validate.proofs.CircleLemmas.{needs_itself_on_circle}
-use Rattle.cdi_validate.proofs.NeedLemmas.{has-by_text}
-use Rattle.cdi_validate.proofs.CircleStayLemmas.{stands-enabled}
 use Rattle.cdi_validate.specs.{Circles.needs_to_run, Together.next_in}
 
 -- ---- no circle, no fault
@@ -78,18 +76,7 @@ between-has nodes (x ∷ xs) v is = by (has nodes x) refl (between-has nodes xs 
 has-between : (nodes : List (List ℕ)) (xs : List (List ℕ)) (v : List ℕ) → has nodes v ≡ true → has xs v ≡ true
     → has (filter (has nodes) xs) v ≡ true
 has-between nodes [] v node is = is
-has-between nodes (x ∷ xs) v node is = by (has nodes x) refl (has-between nodes xs v node)
-  where
-    by : (b : Bool) → has nodes x ≡ b → (has xs v ≡ true → has (filter (has nodes) xs) v ≡ true)
-        → has (cond b (x ∷ filter (has nodes) xs) (filter (has nodes) xs)) v ≡ true
-    by true e rest = elim (or_cases (bytes_eq x v) (has xs v) is) [
-      | inl here ↦ or_left (bytes_eq x v) (has (filter (has nodes) xs) v) here
-      | inr there ↦ or_right (bytes_eq x v) (has (filter (has nodes) xs) v) (rest there)
-    ]
-    by false e rest = elim (or_cases (bytes_eq x v) (has xs v) is) [
-      | inl here ↦ absurd (false≢true (sym e ∙ ap (has nodes) (one_text x v here) ∙ node))
-      | inr there ↦ rest there
-    ]
+has-between nodes (x ∷ xs) v node is = grind (arith, has-between nodes xs v node, false≢true, one_text)
 
 -- a need is of a bean, and another is among what it needs
 abbrev is_need_of : List ℕ → List ℕ → Need → Bool
@@ -106,13 +93,7 @@ is_node ds u d = list_any (λ b. is_dependent b && bytes_eq (text_of_id b.id) u)
 has-dependents : (bs : List Effective) (u : List ℕ)
     → has (dependents bs) u ≡ list_any (λ b. is_dependent b && bytes_eq (text_of_id b.id) u) bs
 has-dependents [] u = refl
-has-dependents (b ∷ bs) u = by (is_dependent b) (has-dependents bs u)
-  where
-    by : (t : Bool) → has (dependents bs) u ≡ list_any (λ b. is_dependent b && bytes_eq (text_of_id b.id) u) bs
-        → has (map (λ b. text_of_id b.id) (cond t (b ∷ filter is_dependent bs) (filter is_dependent bs))) u
-        ≡ ((t && bytes_eq (text_of_id b.id) u) || list_any (λ b. is_dependent b && bytes_eq (text_of_id b.id) u) bs)
-    by true rest = ap (λ t. bytes_eq (text_of_id b.id) u || t) rest
-    by false rest = rest
+has-dependents (b ∷ bs) u = grind (arith, has-dependents bs u, b.id)
 
 node-of : (ds own : List Decl) (u : List ℕ) → has (dependents_in ds own) u ≡ list_any (is_node ds u) own
 node-of ds own u = has-dependents (flat_map (entries ds) own) u
@@ -130,26 +111,10 @@ record IsEdge (ds own : List Decl) (u v : List ℕ) : Type 0 where
   given : list_any (gives ds u v) own ≡ true
 
 edge-is : (ds own : List Decl) (u v : List ℕ) → leads (next_in ds own) u v ≡ true → IsEdge ds own u v
-edge-is ds own u v is = by (has nodes u) refl is
-  where
-    nodes : List (List ℕ)
-    nodes = dependents_in ds own
-
-    by : (b : Bool) → has nodes u ≡ b → has (cond b (filter (has nodes) (needed_by (flat_map (needs_in ds) own) u)) []) v ≡ true
-        → IsEdge ds own u v
-    by true e is = let both = between-has nodes (needed_by (flat_map (needs_in ds) own) u) v is in record {
-      from = sym (node-of ds own u) ∙ e;
-      to = sym (node-of ds own v) ∙ both.0;
-      given = sym (given-by ds own u v) ∙ both.1;
-    }
-    by false e is = absurd (false≢true is)
+edge-is ds own u v is = grind (arith, between-has, node-of, given-by, false≢true)
 
 is-edge : (ds own : List Decl) (u v : List ℕ) → IsEdge ds own u v → leads (next_in ds own) u v ≡ true
-is-edge ds own u v edge =
-    let nodes = dependents_in ds own in
-    let needed = needed_by (flat_map (needs_in ds) own) u in
-    ap (λ b. has (cond b (filter (has nodes) needed) []) v) (node-of ds own u ∙ edge.from)
-    ∙ has-between nodes needed v (node-of ds own v ∙ edge.to) (given-by ds own u v ∙ edge.given)
+is-edge ds own u v edge = grind (arith, edge.from, edge.to, edge.given, node-of, has-between, given-by)
 
 pub faultless_circles : (ds : List Decl) → circles ds ≡ [] → HaveNoCircle ds ds
 unfolding beans circular
@@ -181,16 +146,8 @@ any-at test (x ∷ xs) some = elim (or_cases (test x) (list_any test xs) some) [
 kept-any : {X : Type 0} (test p : X → Bool) (xs : List X) (k : ℕ) (x : X) → slice_get xs k ≡ Some x → p x ≡ true → test x ≡ true
     → list_any test (filter p xs) ≡ true
 kept-any test p [] k x at kept is = absurd (none-some x at)
-kept-any test p (y ∷ ys) zero x at kept is =
-    let same : x ≡ y = sym (same_Some y x at) in
-    let here : p y ≡ true = sym (ap p same) ∙ kept in
-    ap (λ b. list_any test (cond b (y ∷ filter p ys) (filter p ys))) here
-    ∙ or_left (test y) (list_any test (filter p ys)) (sym (ap test same) ∙ is)
-kept-any test p (y ∷ ys) (suc k) x at kept is = by (p y) (kept-any test p ys k x at kept is)
-  where
-    by : (b : Bool) → list_any test (filter p ys) ≡ true → list_any test (cond b (y ∷ filter p ys) (filter p ys)) ≡ true
-    by true rest = or_right (test y) (list_any test (filter p ys)) rest
-    by false rest = rest
+kept-any test p (y ∷ ys) zero x at kept is = grind (arith, same_Some)
+kept-any test p (y ∷ ys) (suc k) x at kept is = grind (arith, kept-any test p ys k x at kept is)
 
 all-flat : {X Y : Type 0} (P : Y → Type 0) (f : X → List Y) → ((x : X) → AllByRecursion P (f x)) → (xs : List X)
     → AllByRecursion P (flat_map f xs)
@@ -215,12 +172,7 @@ continued-slashless : (starts : Bool) (bytes : List ℕ) → continues starts by
 continued-slashless starts [] is = tt
 continued-slashless true (b ∷ bs) is =
     let (letter, rest) = and_parts (is_letter b) (continues_name bs) is in (letter-not b letter, continued-slashless false bs rest)
-continued-slashless false (b ∷ bs) is = by (b == dot) refl (continued-slashless true bs) (continued-slashless false bs)
-  where
-    by : (t : Bool) → (b == dot) ≡ t → (begins bs ≡ true → HasNoSlash bs) → (continues_name bs ≡ true → HasNoSlash bs)
-        → HasNoSlash (b ∷ bs)
-    by true e starts rest = (dot-not b e, starts (rw e at is))
-    by false e starts rest = let (word, more) = and_parts (is_word b) (continues_name bs) (rw e at is) in (word-not b word, rest more)
+continued-slashless false (b ∷ bs) is = grind (arith, continued-slashless true bs, continued-slashless false bs, dot-not, word-not)
 
 name-slashless : (name : List ℕ) → is_name name ≡ true → HasNoSlash name
 name-slashless [] is = tt
@@ -256,11 +208,7 @@ one-class ds k j b c text distinct named at_b at_c of_b of_c =
 -- ---- a bean has needs and records of its class
 
 need-own : (u v : List ℕ) (need : Need) → is_need_of u v need ≡ true → (need.0 ≡ u) × (has need.1 v ≡ true)
-need-own u v need is = by (bytes_eq need.0 u) refl is
-  where
-    by : (b : Bool) → bytes_eq need.0 u ≡ b → has (cond b need.1 []) v ≡ true → (need.0 ≡ u) × (has need.1 v ≡ true)
-    by true e is = (one_text need.0 u e, is)
-    by false e is = absurd (false≢true is)
+need-own u v need is = grind (arith, need.0, need.1, one_text, false≢true)
 
 need-classed : (ds : List Decl) (b : BeanDecl) (m : Mention) → AllByRecursion (λ need. IsText need.0 b) (need_in ds b m)
 need-classed ds b (PointOf points.Constructor p) = ((None, refl), tt)
@@ -340,18 +288,10 @@ module _ (ds : List Decl) (b : BeanDecl) where
   quiet-parts place (Some part) none = quiet-part place [] part none
 
   quiet-method : (m : MethodDecl) → AreQuiet (of_method m)
-  quiet-method m = (
-    refl,
-    all-append IsQuiet (of_bindings m.bindings) (of_part (parts.Method m.name) [] m.part) (quiet-bindings m.bindings)
-        (quiet-part (parts.Method m.name) [] m.part refl),
-  )
+  quiet-method m = grind (arith, m.bindings, m.name, m.part, all-append, quiet-bindings, quiet-part)
 
   quiet-disposer : (s : DisposerDecl) → AreQuiet (of_disposer s)
-  quiet-disposer s = (
-    refl,
-    all-append IsQuiet (of_qualifiers s.qualifiers) (BodyOf (parts.Disposer s.name) s.body ∷ []) (quiet-qualifiers s.qualifiers)
-        (refl, tt),
-  )
+  quiet-disposer s = grind (arith, s.qualifiers, s.name, s.body, all-append, quiet-qualifiers)
 
   quiet-param : (name : List ℕ) (p : PointDecl) → AreQuiet (of_point (points.Observer name) p)
   quiet-param name p = (refl, (refl, quiet-qualifiers p.qualifiers))
@@ -440,10 +380,7 @@ given-around ds i u v is =
 -- ---- no edge leaves a bean that needs nothing
 
 or-other : (x y : Bool) → (not x || y) ≡ true → x ≡ true → y ≡ true
-or-other x y some is = elim (or_cases (not x) y some) [
-  | inl off ↦ absurd (false≢true (sym (ap not is) ∙ off))
-  | inr on ↦ on
-]
+or-other x y some is = grind (arith, false≢true)
 
 module _ (ds : List Decl) (distinct : AreDistinct ds) (named : AreNamed ds) where
   bean-leaves_none : (k : ℕ) (b : BeanDecl) (u v : List ℕ) → slice_get ds k ≡ Some (decls.Bean b) → is_needless ds (decls.Bean b) ≡ true

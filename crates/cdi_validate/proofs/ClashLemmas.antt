@@ -2,12 +2,11 @@
 use Rattle.cdi_validate.proofs.Common.{◌≡◌, List, ◌++◌, sym, ap, ◌∙◌, append_assoc, flat_map, name_clashes, ◌<◌, ℕ, Bool, true, false, cond}
 use Rattle.cdi_validate.proofs.Common.{[], ◌∷◌, length, map, filter, Ordering, Less, Equal, refl, AllByRecursion, IsStrictlySortedBy}
 use Rattle.cdi_validate.proofs.Common.{tied_itself, enabled_names, ◌&&◌, subst, bytes_eq, filter-append, has, BTreeMap, keys_of, same_text}
-use Rattle.cdi_validate.proofs.Common.{Some, append-nil, or_cases, Effective, ◌||◌, Option, None, list_any, list_any-append, ◌+◌, one_text}
-use Rattle.cdi_validate.proofs.Common.{fold, take, get_or, ⊎_elim, get, is_at, lookup, is_some, unwrap_or, slice_cmp, nat_cmp, or-false}
+use Rattle.cdi_validate.proofs.Common.{Some, append-nil, or_cases, Effective, Option, None, list_any, list_any-append, ◌+◌, one_text, fold}
+use Rattle.cdi_validate.proofs.Common.{take, get_or, ⊎_elim, get, is_at, lookup, is_some, unwrap_or, slice_cmp, nat_cmp, or-false}
 use Rattle.cdi_validate.proofs.Common.{flat_map-append, map-append, nat_list_cmp_total, fold-append, at_name, candidate, other_text}
 use Rattle.cdi_validate.proofs.Common.{choice_of, chosen_by_name, is_named, leading, nobody, with_candidate, Leaders, is_ambiguous}
-use Rattle.cdi_validate.proofs.Common.{enabled_name, leaders_in, AreLed, AreNames, take_more}
-use Rattle.cdi_resolve.specs.Choices.{named}
+use Rattle.cdi_validate.proofs.Common.{enabled_name, leaders_in, AreLed, AreNames, take_more, arith, named}
 use Rattle.cdi_resolve.proofs.LeaderLemmas.{leaders_choose}
 use Rattle.cdi_faults.specs.declared.fault.Fault.TheVariants as faults_are
 use Rattle.cdi_validate.proofs.NameLemmas.{enabled_names-are}
@@ -18,13 +17,7 @@ order = slice_cmp nat_cmp
 
 -- the bean is enabled and has the name
 pub is_its_name : (b : Effective) (n : List ℕ) → (b.is_enabled && is_named n b.name) ≡ has (enabled_name b) n
-is_its_name b n = by b.is_enabled b.name refl refl
-  where
-    by : (e : Bool) (name : Option (List ℕ)) → b.is_enabled ≡ e → b.name ≡ name
-        → (b.is_enabled && is_named n b.name) ≡ has (enabled_name b) n
-    by false name off is = rw off refl
-    by true None on is = rw (on, is) refl
-    by true (Some name) on is = rw (on, is) (sym (or-false (bytes_eq name n)))
+is_its_name b n = grind (arith, b.is_enabled, b.name, or-false)
 
 -- ---- the beans of a name, one after another
 
@@ -43,21 +36,12 @@ led-name at bean name s led between new enabled is led-is gone put = put ∙ by 
 leaders-push : (bs : List Effective) (b : Effective)
     → leaders_in (bs ++ b ∷ []) ≡ Some (with_candidate (unwrap_or (leaders_in bs) nobody) (candidate b))
 leaders-push [] b = refl
-leaders-push (c ∷ bs) b = ap Some (
-    ap (fold with_candidate nobody) (map-append candidate (c ∷ bs) (b ∷ []))
-    ∙ fold-append with_candidate nobody (map candidate (c ∷ bs)) (candidate b ∷ []))
+leaders-push (c ∷ bs) b = grind (arith, map-append, fold-append)
 
 led-next : (at at' : List ℕ → Option Leaders) (bs : List Effective) (b : Effective) → ((s : List ℕ) → at' s ≡ with_bean (at s) b s)
     → ((s : List ℕ) → at s ≡ leaders_in (named bs s)) → (s : List ℕ) → at' s ≡ leaders_in (named (bs ++ b ∷ []) s)
 unfolding named
-led-next at at' bs b put led s =
-    put s ∙ ap (λ leaders. with_bean leaders b s) (led s) ∙ by (b.is_enabled && is_named s b.name)
-    ∙ ap leaders_in (sym (filter-append (λ bean. bean.is_enabled && is_named s bean.name) bs (b ∷ [])))
-  where
-    by : (t : Bool) → cond t (Some (with_candidate (unwrap_or (leaders_in (named bs s)) nobody) (candidate b))) (leaders_in (named bs s))
-        ≡ leaders_in (named bs s ++ cond t (b ∷ []) [])
-    by true = sym (leaders-push (named bs s) b)
-    by false = ap leaders_in (sym (append-nil (named bs s)))
+led-next at at' bs b put led s = grind (arith, b.is_enabled, b.name, filter-append, leaders-push, append-nil)
 
 -- one more of some beans
 pub led-more : (leaders leaders' : BTreeMap (List ℕ) Leaders) (before bs : List Effective) (i : ℕ) (b : Effective) → i < length bs
@@ -88,24 +72,11 @@ names-more bs i b within at own before =
 some-led : (bs : List Effective) (s : List ℕ) → is_some (leaders_in (named bs s)) ≡ has (flat_map enabled_name bs) s
 unfolding named
 some-led [] s = refl
-some-led (b ∷ bs) s =
-    by (b.is_enabled && is_named s b.name) (some-led bs s)
-    ∙ ap (λ t. t || has (flat_map enabled_name bs) s) (is_its_name b s)
-    ∙ sym (list_any-append (λ m. bytes_eq m s) (enabled_name b) (flat_map enabled_name bs))
-  where
-    by : (t : Bool) → is_some (leaders_in (named bs s)) ≡ has (flat_map enabled_name bs) s
-        → is_some (leaders_in (cond t (b ∷ named bs s) (named bs s))) ≡ (t || has (flat_map enabled_name bs) s)
-    by true rest = refl
-    by false rest = rest
+some-led (b ∷ bs) s = grind (arith, some-led bs s, b.is_enabled, b.name, is_its_name, list_any-append)
 
 any-some : (s : List ℕ) (es : List (List ℕ × Leaders)) → list_any (is_at (order s)) (keys_of es) ≡ is_some (lookup (is_at (order s)) es)
 any-some s [] = refl
-any-some s (e ∷ es) = by (is_at (order s) e.0) (any-some s es)
-  where
-    by : (t : Bool) → list_any (is_at (order s)) (keys_of es) ≡ is_some (lookup (is_at (order s)) es)
-        → (t || list_any (is_at (order s)) (keys_of es)) ≡ is_some (cond t (Some e.1) (lookup (is_at (order s)) es))
-    by true rest = refl
-    by false rest = rest
+any-some s (e ∷ es) = grind (arith, any-some s es, e.0, e.1)
 
 pub keys-named : (bs : List Effective) (es : List (List ℕ × Leaders)) → IsStrictlySortedBy order (keys_of es)
     → ((s : List ℕ) → lookup (is_at (order s)) es ≡ leaders_in (named bs s)) → keys_of es ≡ enabled_names bs
@@ -132,12 +103,8 @@ found-later : (e : List ℕ × Leaders) (es more : List (List ℕ × Leaders)) �
     → AllByRecursion (λ f. lookup (is_at (order f.0)) es ≡ Some f.1) more
     → AllByRecursion (λ f. lookup (is_at (order f.0)) (e ∷ es) ≡ Some f.1) more
 found-later e es [] above all = tt
-found-later e es (f ∷ more) above all = (
-  ap (λ b. cond b (Some e.1) (lookup (is_at (order f.0)) es))
-      (at_name f.0 e.0 ∙ other_text f.0 e.0 (λ same. less-apart e.0 f.0 same above.0))
-      ∙ all.0,
-  found-later e es more above.1 all.1,
-)
+found-later e es (f ∷ more) above all =
+    grind (arith, found-later e es more above.1 all.1, e.1, f.0, e.0, above.0, all.0, above.1, all.1, at_name, other_text, less-apart)
 
 found-each : (es : List (List ℕ × Leaders)) → IsStrictlySortedBy order (keys_of es)
     → AllByRecursion (λ e. lookup (is_at (order e.0)) es ≡ Some e.1) es
@@ -152,19 +119,7 @@ clashes-each : (bs : List Effective) (es : List (List ℕ × Leaders)) → AllBy
     → map (λ e. faults_are.NameClash e.0) (filter (λ e. is_ambiguous (leading e.1)) es)
     ≡ map faults_are.NameClash (filter (λ n. is_ambiguous (chosen_by_name bs n)) (keys_of es))
 clashes-each bs [] all = refl
-clashes-each bs (e ∷ es) all =
-    ap (λ choice. map (λ f. faults_are.NameClash f.0)
-    (cond (is_ambiguous choice) (e ∷ filter (λ f. is_ambiguous (leading f.1)) es) (filter (λ f. is_ambiguous (leading f.1)) es))) all.0
-    ∙ by (is_ambiguous (chosen_by_name bs e.0)) (clashes-each bs es all.1)
-  where
-    by : (t : Bool) → map (λ f. faults_are.NameClash f.0) (filter (λ f. is_ambiguous (leading f.1)) es)
-        ≡ map faults_are.NameClash (filter (λ n. is_ambiguous (chosen_by_name bs n)) (keys_of es))
-        → map (λ f. faults_are.NameClash f.0)
-        (cond t (e ∷ filter (λ f. is_ambiguous (leading f.1)) es) (filter (λ f. is_ambiguous (leading f.1)) es))
-        ≡ map faults_are.NameClash (cond t (e.0 ∷ filter (λ n. is_ambiguous (chosen_by_name bs n)) (keys_of es))
-        (filter (λ n. is_ambiguous (chosen_by_name bs n)) (keys_of es)))
-    by true rest = ap (λ fs. faults_are.NameClash e.0 ∷ fs) rest
-    by false rest = rest
+clashes-each bs (e ∷ es) all = grind (arith, clashes-each bs es all.1, all.0, e.0, all.1)
 
 each-leads : (bs : List Effective) (es more : List (List ℕ × Leaders))
     → ((s : List ℕ) → lookup (is_at (order s)) es ≡ leaders_in (named bs s))
@@ -176,6 +131,4 @@ each-leads bs es (e ∷ more) led all = (leads-named bs e.0 e.1 (sym all.0 ∙ l
 pub clashes-led : (bs : List Effective) (es : List (List ℕ × Leaders)) → IsStrictlySortedBy order (keys_of es)
     → ((s : List ℕ) → lookup (is_at (order s)) es ≡ leaders_in (named bs s))
     → map (λ e. faults_are.NameClash e.0) (filter (λ e. is_ambiguous (leading e.1)) es) ≡ name_clashes bs
-clashes-led bs es rise led =
-    clashes-each bs es (each-leads bs es es led (found-each es rise))
-    ∙ ap (λ names. map faults_are.NameClash (filter (λ n. is_ambiguous (chosen_by_name bs n)) names)) (keys-named bs es rise led)
+clashes-led bs es rise led = grind (arith, clashes-each, each-leads, found-each, keys-named)

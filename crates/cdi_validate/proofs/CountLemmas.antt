@@ -1,15 +1,13 @@
 -- Names of enabled beans, as they are counted.
 use Rattle.cdi_validate.proofs.Common.{◌≡◌, List, ◌++◌, sym, ap, ◌∙◌, flat_map, Decl, beans, name_prefixes, ◌<◌, ℕ, suc, Bool, true, false}
-use Rattle.cdi_validate.proofs.Common.{cond, [], ◌∷◌, length, map, filter, Ordering, refl, arith, AllByRecursion, AllPairs, ◌≤◌, nat_eq}
-use Rattle.cdi_validate.proofs.Common.{false≢true, Fault, enabled_names, ◌&&◌, subst, bytes_eq, or_left, has, inl, inr, or_cases, or_right}
-use Rattle.cdi_validate.proofs.Common.{entries, Effective, ◌||◌, ◌+◌, get_or, one_text, same_text, flat_map-append, enabled_name, drop}
-use Rattle.cdi_validate.proofs.Common.{Greater, list_all, insert_key, at_drop_more, length-append, byte_order, in_order, in_order-has}
-use Rattle.cdi_validate.proofs.Common.{in_order-rises, one_order, is_nameless, names_by, AreNamesApart, HaveNoClash}
+use Rattle.cdi_validate.proofs.Common.{[], ◌∷◌, length, map, filter, refl, arith, AllByRecursion, AllPairs, ◌≤◌, nat_eq, false≢true, Fault}
+use Rattle.cdi_validate.proofs.Common.{enabled_names, ◌&&◌, subst, bytes_eq, or_left, has, inl, inr, or_cases, or_right, entries, Effective}
+use Rattle.cdi_validate.proofs.Common.{◌||◌, ◌+◌, get_or, one_text, same_text, flat_map-append, enabled_name, drop, list_all, insert_key}
+use Rattle.cdi_validate.proofs.Common.{at_drop_more, length-append, byte_order, in_order, in_order-has, in_order-rises, one_order}
+use Rattle.cdi_validate.proofs.Common.{is_nameless, names_by, AreNamesApart, HaveNoClash, goes_on}
 use Rattle.base_lists.proofs.Flat.{map-empty}
 use Rattle.cdi_faults.specs.declared.fault.Fault.TheVariants as faults_are
-use Rattle.cdi_validate.proofs.ApartLemmas.{Apart, apart-by, apart-pairs}
-use Rattle.cdi_validate.proofs.FoundLemmas.{records-next}
-use Rattle.cdi_validate.specs.Faults.{goes_on}
+use Rattle.cdi_validate.proofs.{ApartLemmas.Apart, ApartLemmas.apart-by, ApartLemmas.apart-pairs, FoundLemmas.records-next}
 
 -- ---- names among others
 
@@ -54,12 +52,7 @@ names-all ds = names-listed ds ds
 
 all-fail : (p : List ℕ → Bool) (names : List (List ℕ)) → filter p names ≡ [] → AllByRecursion (λ n. p n ≡ false) names
 all-fail p [] none = tt
-all-fail p (n ∷ ns) none = by (p n) refl none (all-fail p ns)
-  where
-    by : (b : Bool) → p n ≡ b → cond b (n ∷ filter p ns) (filter p ns) ≡ []
-        → (filter p ns ≡ [] → AllByRecursion (λ m. p m ≡ false) ns) → (p n ≡ false) × AllByRecursion (λ m. p m ≡ false) ns
-    by true e some rest = absurd (let no : n ∷ filter p ns ≡ [] = some in cc)
-    by false e none rest = (e, rest none)
+all-fail p (n ∷ ns) none = grind (arith, all-fail p ns)
 
 each-none : {X : Type 0} (f : List ℕ → List X) (names : List (List ℕ)) → flat_map f names ≡ [] → AllByRecursion (λ n. f n ≡ []) names
 each-none f [] none = tt
@@ -89,19 +82,11 @@ none-by_prefixes bs none x y first second =
 
 insert-length : (k : List ℕ) (ms : List (List ℕ)) → length (insert_key byte_order ms k) ≤ suc (length ms)
 insert-length k [] = omega arith
-insert-length k (m ∷ ms) = by (byte_order k m) refl (insert-length k ms)
-  where
-    by : (o : Ordering) → byte_order k m ≡ o → length (insert_key byte_order ms k) ≤ suc (length ms)
-        → length (insert_key byte_order (m ∷ ms) k) ≤ suc (suc (length ms))
-    by Greater e rest = rw e (omega (arith, rest))
-    by other e rest = rw e (omega arith)
+insert-length k (m ∷ ms) = grind (arith, insert-length k ms)
 
 order-length : (names : List (List ℕ)) → length (in_order names) ≤ length names
 order-length [] = omega arith
-order-length (n ∷ ns) =
-    let one = insert-length n (in_order ns) in
-    let rest = order-length ns in
-    omega (arith, one, rest)
+order-length (n ∷ ns) = grind (arith, order-length ns, insert-length)
 
 -- a name that is among the others adds none
 order-again : (n : List ℕ) (ns : List (List ℕ)) → has ns n ≡ true → in_order (n ∷ ns) ≡ in_order ns
@@ -115,16 +100,7 @@ order-again n ns among = one_order (in_order (n ∷ ns)) (in_order ns) (in_order
 -- so where there are as many, they differ
 names-differ : (names : List (List ℕ)) → length names ≤ length (in_order names) → Apart Differ names
 names-differ [] many = tt
-names-differ (n ∷ ns) many = by (has ns n) refl (names-differ ns)
-  where
-    by : (b : Bool) → has ns n ≡ b → (length ns ≤ length (in_order ns) → Apart Differ ns) → AllByRecursion (Differ n) ns × Apart Differ ns
-    by true e rest =
-        let again = subst (λ l. suc (length ns) ≤ length l) (order-again n ns e) many in
-        let fewer = order-length ns in
-        absurd (omega (arith, again, fewer))
-    by false e rest =
-        let one = insert-length n (in_order ns) in
-        (not-has n ns e, rest (omega (arith, one, many)))
+names-differ (n ∷ ns) many = grind (arith, names-differ ns, order-again, order-length, insert-length, not-has)
 
 -- and where none continues another besides, they are apart
 pub apart-if_as_many : (ds : List Decl) → length (flat_map enabled_name (beans ds)) ≤ length (enabled_names (beans ds))
@@ -161,18 +137,9 @@ listed ds es = flat_map enabled_name (flat_map (entries ds) es)
 -- with those of one more declaration
 pub count-next : (ds es : List Decl) (d : Decl) (records : List Effective) (count : ℕ) → records ≡ entries ds d
     → count ≡ length (flat_map enabled_name records) → length (listed ds es) + count ≡ length (listed ds (es ++ d ∷ []))
-count-next ds es d records count are counted =
-    ap (λ n. length (listed ds es) + n) counted
-    ∙ sym (length-append (listed ds es) (flat_map enabled_name records))
-    ∙ ap length (sym (flat_map-append enabled_name (flat_map (entries ds) es) records)
-    ∙ ap (flat_map enabled_name) (ap (λ own. flat_map (entries ds) es ++ own) are ∙ records-next ds es d))
+count-next ds es d records count are counted = grind (arith, length-append, flat_map-append, records-next)
 
 -- there are no fewer in all
 pub count-gone : (ds es rest : List Decl) → es ++ rest ≡ ds → length (listed ds es) ≤ length (flat_map enabled_name (beans ds))
 unfolding beans
-count-gone ds es rest split =
-    let whole : flat_map enabled_name (beans ds) ≡ listed ds es ++ listed ds rest =
-    ap (listed ds) (sym split) ∙ ap (flat_map enabled_name) (flat_map-append (entries ds) es rest)
-    ∙ flat_map-append enabled_name (flat_map (entries ds) es) (flat_map (entries ds) rest) in
-    let sum = ap length whole ∙ length-append (listed ds es) (listed ds rest) in
-    omega (arith, sum)
+count-gone ds es rest split = grind (arith, flat_map-append, length-append)

@@ -1,19 +1,17 @@
 -- The lines that the faults of names and circles print, in byte order.
 use Rattle.cdi_validate.proofs.Common.{◌≡◌, List, ◌++◌, sym, ap, ◌∙◌, flat_map, Decl, circles, name_clashes, name_prefixes, ◌<◌, ℕ, Bool}
 use Rattle.cdi_validate.proofs.Common.{true, false, [], ◌∷◌, map, filter, Ordering, Less, Equal, refl, arith, AllByRecursion, same_text}
-use Rattle.cdi_validate.proofs.Common.{IsStrictlySortedBy, tied_itself, ◌==◌, and_parts, eqb-true, dot, begins, continues, is_letter}
-use Rattle.cdi_validate.proofs.Common.{is_name, is_word, Fault, enabled_names, subst, bytes_eq, or_left, has, text_of_fault, BeanId}
-use Rattle.cdi_validate.proofs.Common.{circular, circle, or_right, text_of_id, Effective, nat_cmp, chosen_by_name, is_ambiguous}
-use Rattle.cdi_validate.proofs.Common.{enabled_name, AreNames, Greater, byte_order, in_order-has, in_order-rises, ordering_then}
-use Rattle.cdi_validate.proofs.Common.{nat_cmp_total, IsStrictlySortedBy-filter, LinesRise, all-weaker, all-each, all-append}
+use Rattle.cdi_validate.proofs.Common.{IsStrictlySortedBy, tied_itself, and_parts, eqb-true, begins, continues, is_letter, is_name, is_word}
+use Rattle.cdi_validate.proofs.Common.{Fault, enabled_names, subst, bytes_eq, or_left, has, text_of_fault, BeanId, circular, circle}
+use Rattle.cdi_validate.proofs.Common.{or_right, text_of_id, Effective, nat_cmp, chosen_by_name, is_ambiguous, enabled_name, AreNames}
+use Rattle.cdi_validate.proofs.Common.{Greater, byte_order, in_order-has, in_order-rises, ordering_then, nat_cmp_total}
+use Rattle.cdi_validate.proofs.Common.{IsStrictlySortedBy-filter, LinesRise, all-weaker, all-each, all-append, goes_on}
 use Rattle.std.specs.Prelude.{codes}
 use Rattle.std.proofs.lemmas.Bool.{lt-ltb, Decides.nat_tests}
 use Rattle.cdi_model.specs.Grammar.{goes_on as continues_name}
 use Rattle.cdi_model.specs.Bytes.{space}
 use Rattle.cdi_faults.specs.declared.fault.Fault.TheVariants as faults_are
-use Rattle.cdi_validate.proofs.NeedLemmas.{circular-rise}
-use Rattle.cdi_validate.proofs.ApartLemmas.{all-map}
-use Rattle.cdi_validate.specs.Faults.{goes_on}
+use Rattle.cdi_validate.proofs.{NeedLemmas.circular-rise, ApartLemmas.all-map}
 
 -- ---- lists that rise
 
@@ -22,19 +20,14 @@ rises-map : {X Y : Type 0} (order : X → X → Ordering) (other : Y → Y → O
     → IsStrictlySortedBy other (map f xs)
 unfolding IsStrictlySortedBy
 rises-map order other f keeps [] rise = tt
-rises-map order other f keeps (x ∷ xs) rise = (
-  all-map (λ y. other (f x) y ≡ Less) f xs (all-weaker (λ y. order x y ≡ Less) (λ y. other (f x) (f y) ≡ Less) xs (keeps x) rise.0),
-  rises-map order other f keeps xs rise.1,
-)
+rises-map order other f keeps (x ∷ xs) rise = grind (arith, rises-map order other f keeps xs rise.1, rise.0, rise.1, all-map, all-weaker)
 
 rises-append : {X : Type 0} (order : X → X → Ordering) (xs ys : List X) → IsStrictlySortedBy order xs → IsStrictlySortedBy order ys
     → AllByRecursion (λ x. AllByRecursion (λ y. order x y ≡ Less) ys) xs → IsStrictlySortedBy order (xs ++ ys)
 unfolding IsStrictlySortedBy
 rises-append order [] ys front back below = back
-rises-append order (x ∷ xs) ys front back below = (
-  all-append (λ y. order x y ≡ Less) xs ys front.0 below.0,
-  rises-append order xs ys front.1 back below.1,
-)
+rises-append order (x ∷ xs) ys front back below =
+    grind (arith, rises-append order xs ys front.1 back below.1, front.0, below.0, front.1, below.1, all-append)
 
 -- ---- lines
 
@@ -90,12 +83,7 @@ continued-above : (starts : Bool) (bytes : List ℕ) → continues starts bytes 
 continued-above starts [] is = tt
 continued-above true (b ∷ bs) is =
     let (letter, rest) = and_parts (is_letter b) (continues_name bs) is in (letter-above b letter, continued-above false bs rest)
-continued-above false (b ∷ bs) is = by (b == dot) refl (continued-above true bs) (continued-above false bs)
-  where
-    by : (t : Bool) → (b == dot) ≡ t → (begins bs ≡ true → IsAboveSpace bs) → (continues_name bs ≡ true → IsAboveSpace bs)
-        → IsAboveSpace (b ∷ bs)
-    by true e starts rest = (let e : b ≡ dot = eqb-true b dot e in omega arith, starts (rw e at is))
-    by false e starts rest = let (word, more) = and_parts (is_word b) (continues_name bs) (rw e at is) in (word-above b word, rest more)
+continued-above false (b ∷ bs) is = grind (arith, continued-above true bs, continued-above false bs, eqb-true, word-above)
 
 name-above : (name : List ℕ) → is_name name ≡ true → IsAboveSpace name
 name-above [] is = tt

@@ -1,10 +1,10 @@
 -- Names that go on behind others, among names in byte order.
 use Rattle.cdi_validate.proofs.Common.{◌≡◌, List, ◌++◌, sym, ap, ◌∙◌, flat_map, ◌<◌, ℕ, zero, suc, Bool, true, false, cond, [], ◌∷◌, length}
 use Rattle.cdi_validate.proofs.Common.{map, filter, Ordering, Less, Equal, refl, AllByRecursion, IsStrictlySortedBy, tied_itself, nat_eq}
-use Rattle.cdi_validate.proofs.Common.{and_parts, eqb-true, false≢true, dot, Fault, enabled_names, ◌&&◌, subst, has, Effective, list_any}
-use Rattle.cdi_validate.proofs.Common.{◌+◌, get_or, is_at, slice_cmp, nat_cmp, nat_list_cmp_total, enabled_name, drop, Greater}
-use Rattle.cdi_validate.proofs.Common.{at_drop_more, in_order, in_order-has, in_order-rises, one_order, ordering_then, nat_cmp_total}
-use Rattle.cdi_validate.proofs.Common.{starts_with, has-by_order, prefix_pairs}
+use Rattle.cdi_validate.proofs.Common.{and_parts, eqb-true, false≢true, dot, Fault, enabled_names, ◌&&◌, has, Effective, list_any, ◌+◌}
+use Rattle.cdi_validate.proofs.Common.{get_or, is_at, slice_cmp, nat_cmp, nat_list_cmp_total, enabled_name, drop, Greater, at_drop_more}
+use Rattle.cdi_validate.proofs.Common.{in_order-has, in_order-rises, one_order, ordering_then, nat_cmp_total, starts_with, has-by_order}
+use Rattle.cdi_validate.proofs.Common.{prefix_pairs, arith}
 use Rattle.std.proofs.{lemmas.List.drop_more, Math.Bool.and_assoc, Math.Bool.and-true, lemmas.Bool.Decides.Decides-eqb}
 use Rattle.std.specs.Ordering.{ordering_reverse}
 use Rattle.std.proofs.lemmas.Map.Lookups.{exact_unsigned}
@@ -44,12 +44,7 @@ less-if_goes_on (a ∷ xs) (b ∷ ys) h =
 
 -- so none goes on behind one after it, and none behind itself
 goes_on-before : (x y : List ℕ) → order x y ≡ Less → goes_on y x ≡ false
-goes_on-before x y less = by (goes_on y x) refl
-  where
-    by : (b : Bool) → goes_on y x ≡ b → goes_on y x ≡ false
-    by true e = absurd (let no : Less ≡ Greater = sym less ∙ nat_list_cmp_total.antisymm x y
-        ∙ ap ordering_reverse (less-if_goes_on y x e) in cc)
-    by false e = e
+goes_on-before x y less = grind (arith, nat_list_cmp_total.antisymm, less-if_goes_on)
 
 pub goes_on-itself : (x : List ℕ) → goes_on x x ≡ false
 goes_on-itself x = by (goes_on x x) refl
@@ -86,11 +81,8 @@ begins-between (a ∷ xs) (b ∷ ys) (c ∷ zs) less more begins = by (nat_cmp a
 none-behind : (x y : List ℕ) (zs : List (List ℕ)) → order x y ≡ Less → starts_with nat_eq y x ≡ false
     → AllByRecursion (λ z. order y z ≡ Less) zs → filter (goes_on x) zs ≡ []
 none-behind x y [] less other rise = refl
-none-behind x y (z ∷ zs) less other rise = rw (goes_on-begins x z (by (starts_with nat_eq z x) refl)) (none-behind x y zs less other rise.1)
-  where
-    by : (b : Bool) → starts_with nat_eq z x ≡ b → starts_with nat_eq z x ≡ false
-    by true e = absurd (false≢true (sym other ∙ begins-between x y z less rise.0 e))
-    by false e = e
+none-behind x y (z ∷ zs) less other rise =
+    grind (arith, none-behind x y zs less other rise.1, rise.1, rise.0, goes_on-begins, false≢true, begins-between)
 
 none-from : (x y : List ℕ) (zs : List (List ℕ)) → order x y ≡ Less → starts_with nat_eq y x ≡ false
     → AllByRecursion (λ z. order y z ≡ Less) zs → filter (goes_on x) (y ∷ zs) ≡ []
@@ -111,11 +103,7 @@ rises-drop (suc i) (y ∷ ys) rise = rises-drop i ys rise.1
 pub none-left : (x y : List ℕ) (ys : List (List ℕ)) (i : ℕ) → IsStrictlySortedBy order (x ∷ ys) → i < length ys → y ≡ get_or ys i y
     → starts_with nat_eq y x ≡ false → filter (goes_on x) (drop i ys) ≡ []
 unfolding IsStrictlySortedBy
-none-left x y ys i rise lt at other =
-    let here : drop i ys ≡ y ∷ drop (i + 1) ys = drop_more ys i y lt ∙ ap (λ z. z ∷ drop (i + 1) ys) (sym at) in
-    let above = subst (λ l. AllByRecursion (λ z. order x z ≡ Less) l) here (all-drop (λ z. order x z ≡ Less) i ys rise.0) in
-    let behind = subst (λ l. IsStrictlySortedBy order l) here (rises-drop i ys rise.1) in
-    ap (filter (goes_on x)) here ∙ none-from x y (drop (i + 1) ys) above.0 other behind.0
+none-left x y ys i rise lt at other = grind (arith, rise.0, rise.1, drop_more, all-drop, rises-drop, none-from)
 
 -- and where it does
 pub some-left : (x y : List ℕ) (ys : List (List ℕ)) (i : ℕ) (b : Bool) → i < length ys → y ≡ get_or ys i y → starts_with nat_eq y x ≡ true
@@ -151,6 +139,4 @@ pairs-behind (x ∷ xs) rise = rw (goes_on-itself x)
 -- the names of a set that has just those of enabled beans are these, in order
 pub enabled_names-are : (bs : List Effective) (keys : List (List ℕ)) → IsStrictlySortedBy order keys
     → ((s : List ℕ) → list_any (is_at (slice_cmp nat_cmp s)) keys ≡ has (flat_map enabled_name bs) s) → keys ≡ enabled_names bs
-enabled_names-are bs keys rise same =
-    let names = flat_map enabled_name bs in
-    one_order keys (in_order names) rise (in_order-rises names) (λ s. sym (has-by_order keys s) ∙ same s ∙ sym (in_order-has names s))
+enabled_names-are bs keys rise same = grind (arith, one_order, in_order-rises, has-by_order, in_order-has)

@@ -1,17 +1,14 @@
 -- Declarations whose enabled beans have names that are apart.
 use Rattle.cdi_validate.proofs.Common.{all-weaker, all-each, all-back, flat-empty, flat-filter, ◌≡◌, List, ◌++◌, sym, ap, ◌∙◌, flat_map}
-use Rattle.cdi_validate.proofs.Common.{Decl, beans, name_clashes, name_prefixes, ℕ, Bool, true, false, cond, [], ◌∷◌, length, map, filter}
-use Rattle.cdi_validate.proofs.Common.{refl, AllByRecursion, AllPairs, eqb-true, false≢true, enabled_names, ◌&&◌, subst, bytes_eq}
-use Rattle.cdi_validate.proofs.Common.{nil_from_length, has, IsAlike, ◌⊎◌, inl, same_text, inr, or_cases, Effective, list_any-append}
-use Rattle.cdi_validate.proofs.Common.{candidate, choice_of, chosen_by_name, is_named, one_text, is_ambiguous, enabled_name, in_order-has}
-use Rattle.cdi_validate.proofs.Common.{is_nameless, names_by, AreNamesApart, HaveNoClash, or_parts}
-use Rattle.cdi_resolve.specs.Choices.{named}
+use Rattle.cdi_validate.proofs.Common.{Decl, beans, name_clashes, name_prefixes, ℕ, Bool, true, false, cond, [], ◌∷◌, map, filter, refl}
+use Rattle.cdi_validate.proofs.Common.{AllByRecursion, AllPairs, eqb-true, false≢true, enabled_names, subst, bytes_eq, nil_from_length, has}
+use Rattle.cdi_validate.proofs.Common.{IsAlike, ◌⊎◌, inl, same_text, inr, or_cases, Effective, list_any-append, choice_of, chosen_by_name}
+use Rattle.cdi_validate.proofs.Common.{one_text, is_ambiguous, enabled_name, in_order-has, is_nameless, names_by, AreNamesApart}
+use Rattle.cdi_validate.proofs.Common.{HaveNoClash, or_parts, arith, named, goes_on}
 use Rattle.cdi_faults.specs.declared.fault.Fault.TheVariants as faults_are
 use Rattle.cdi_validate.proofs.ApartLemmas.{Apart, apart-back, apart-more, flat-same, pairs-apart, pairs-left}
-use Rattle.cdi_validate.proofs.ClashLemmas.{is_its_name}
-use Rattle.cdi_validate.proofs.NameLemmas.{goes_on-itself}
+use Rattle.cdi_validate.proofs.{ClashLemmas.is_its_name, NameLemmas.goes_on-itself}
 use Rattle.cdi_validate.proofs.CountLemmas.{all-has, has-all, names-all, Differ, NoneGoesOn}
-use Rattle.cdi_validate.specs.Faults.{goes_on}
 
 -- ---- the names of some declarations
 
@@ -30,10 +27,7 @@ clash_filtered ds own p apart = pairs-left (names_by ds) p AreNamesApart own apa
 -- they are apart with those that are left out, where these have no names
 pub clash_whole : (ds own : List Decl) (p : Decl → Bool) → AllByRecursion (λ d. p d ≡ false → is_nameless ds d ≡ true) own
     → HaveNoClash ds (filter p own) → HaveNoClash ds own
-clash_whole ds own p nameless apart =
-    let none : AllByRecursion (λ d. p d ≡ false → names_by ds d ≡ []) own =
-    all-weaker (λ d. p d ≡ false → is_nameless ds d ≡ true) (λ d. p d ≡ false → names_by ds d ≡ []) own (λ d empty out. nil_from_length (names_by ds d) (eqb-true (length (names_by ds d)) 0 (empty out))) nameless in
-    subst (AllPairs AreNamesApart) (flat-filter (names_by ds) p own none) apart
+clash_whole ds own p nameless apart = grind (arith, all-weaker, nil_from_length, eqb-true, flat-filter)
 
 -- ---- what gives nothing
 
@@ -44,11 +38,7 @@ none-passes p (n ∷ ns) none = rw none.0 (none-passes p ns none.1)
 -- ---- names that differ
 
 none-has : (n : List ℕ) (names : List (List ℕ)) → AllByRecursion (Differ n) names → has names n ≡ false
-none-has n names others = by (has names n) refl
-  where
-    by : (b : Bool) → has names n ≡ b → b ≡ false
-    by true e = absurd (false≢true (sym (all-has (Differ n) names n others e) ∙ same_text n n refl))
-    by false e = refl
+none-has n names others = grind (arith, false≢true, all-has, same_text)
 
 -- a name that is among the first is not among those behind them
 not-behind : (xs ys : List (List ℕ)) (n : List ℕ) → Apart Differ (xs ++ ys) → has xs n ≡ true → has ys n ≡ false
@@ -72,16 +62,16 @@ one-named : (bs : List Effective) (n : List ℕ) → Apart Differ (flat_map enab
 unfolding named chosen_by_name choice_of
 one-named [] n apart = refl
 one-named (b ∷ bs) n apart =
-    by (has (enabled_name b) n) refl (one-named bs n (apart-back Differ (enabled_name b) (flat_map enabled_name bs) apart))
-  where
-    by : (t : Bool) → has (enabled_name b) n ≡ t → is_ambiguous (choice_of (map candidate (named bs n))) ≡ false
-        → is_ambiguous (choice_of (map candidate (cond (b.is_enabled && is_named n b.name) (b ∷ named bs n) (named bs n)))) ≡ false
-    by true e rest =
-        ap (λ t. is_ambiguous (choice_of (map candidate (cond t (b ∷ named bs n) (named bs n))))) (is_its_name b n ∙ e)
-        ∙ ap (λ own. is_ambiguous (choice_of (map candidate (b ∷ own))))
-        (none-named bs n (not-behind (enabled_name b) (flat_map enabled_name bs) n apart e))
-    by false e rest =
-        ap (λ t. is_ambiguous (choice_of (map candidate (cond t (b ∷ named bs n) (named bs n))))) (is_its_name b n ∙ e) ∙ rest
+    grind (
+      arith,
+      one-named bs n (apart-back Differ (enabled_name b) (flat_map enabled_name bs) apart),
+      b.is_enabled,
+      b.name,
+      apart-back,
+      is_its_name,
+      none-named,
+      not-behind,
+    )
 
 no-clashes : (bs : List Effective) → Apart Differ (flat_map enabled_name bs) → name_clashes bs ≡ []
 no-clashes bs apart = ap (map faults_are.NameClash) (none-passes (λ n. is_ambiguous (chosen_by_name bs n)) (enabled_names bs)
@@ -107,15 +97,7 @@ none-goes_on (n ∷ ns) apart x y first second =
     by (inr x_later) (inr y_later) rest = rest x_later y_later
 
 no-prefixes : (bs : List Effective) → NoneGoesOn (flat_map enabled_name bs) → name_prefixes bs ≡ []
-no-prefixes bs none =
-    let names = flat_map enabled_name bs in
-    let all = enabled_names bs in
-    let behind : (x : List ℕ) → has all x ≡ true → filter (goes_on x) all ≡ [] = λ x first.
-    none-passes (goes_on x) all (has-all (λ y. goes_on x y ≡ false) all (λ y second.
-    none x y (sym (in_order-has names x) ∙ first) (sym (in_order-has names y) ∙ second))) in
-    flat-empty (λ x. map (faults_are.NamePrefix x) (filter (goes_on x) all)) all
-    (has-all (λ x. map (faults_are.NamePrefix x) (filter (goes_on x) all) ≡ []) all
-    (λ x first. ap (map (faults_are.NamePrefix x)) (behind x first)))
+no-prefixes bs none = grind (arith, none-passes, has-all, in_order-has, flat-empty)
 
 -- so names that are apart have no faults
 pub no_name_faults : (ds : List Decl) → HaveNoClash ds ds → (name_clashes (beans ds) ≡ []) × (name_prefixes (beans ds) ≡ [])

@@ -1,17 +1,15 @@
 -- What beans need, as it is found: the dependent beans by their texts, and the edges between them.
 use Rattle.cdi_validate.proofs.Common.{◌≡◌, List, ◌++◌, sym, ap, ◌∙◌, append_assoc, flat_map, Decl, beans, ℕ, Bool, true, false, cond, []}
-use Rattle.cdi_validate.proofs.Common.{◌∷◌, map, filter, Ordering, Less, Equal, refl, AllByRecursion, IsStrictlySortedBy, subst, bytes_eq}
-use Rattle.cdi_validate.proofs.Common.{filter-append, has, keys_of, filter_agree, Edges, BeanId, between, circular, dependents}
-use Rattle.cdi_validate.proofs.Common.{dependents_by_text, needed_by, needs_itself, ◌⊎◌, append-nil, InterceptorDecl, PointDecl, one_text}
-use Rattle.cdi_validate.proofs.Common.{text_of_id, Effective, is_enabled, stands_around, answer_to, Need, chosen_for, chosen_one}
-use Rattle.cdi_validate.proofs.Common.{is_dependent, managed_id, need_around, ◌||◌, fold, ⊎_elim, is_at, lookup, is_some, or-false}
-use Rattle.cdi_validate.proofs.Common.{flat_map-append, Greater, insert_key, byte_order, in_order, in_order-has, in_order-rises}
-use Rattle.cdi_validate.proofs.Common.{IsStrictlySortedBy-filter, has-by_order, or_assoc, or_comm, same_name, Choice, with_dependent}
-use Rattle.cdi_validate.proofs.Common.{AddsNeeds}
+use Rattle.cdi_validate.proofs.Common.{◌∷◌, map, filter, refl, AllByRecursion, IsStrictlySortedBy, subst, bytes_eq, filter-append, has}
+use Rattle.cdi_validate.proofs.Common.{keys_of, filter_agree, Edges, BeanId, between, circular, dependents, dependents_by_text}
+use Rattle.cdi_validate.proofs.Common.{needs_itself, ◌⊎◌, append-nil, InterceptorDecl, PointDecl, one_text, text_of_id, Effective}
+use Rattle.cdi_validate.proofs.Common.{is_enabled, stands_around, answer_to, Need, chosen_for, chosen_one, is_dependent, managed_id}
+use Rattle.cdi_validate.proofs.Common.{need_around, ◌||◌, fold, ⊎_elim, is_at, lookup, is_some, or-false, flat_map-append, insert_key}
+use Rattle.cdi_validate.proofs.Common.{byte_order, in_order, in_order-has, in_order-rises, IsStrictlySortedBy-filter, has-by_order}
+use Rattle.cdi_validate.proofs.Common.{or_assoc, or_comm, same_name, Choice, with_dependent, AddsNeeds, arith, next_in}
 use Rattle.std.specs.BTreeMap.{insert_entry}
 use Rattle.std.proofs.lemmas.Map.Made.{is_some-lookup}
 use Rattle.cdi_model.specs.declared.decl.Decl.TheVariants as decls
-use Rattle.cdi_circles.specs.Edges.{next_in}
 
 abbrev Entries : Type 0
 Entries = List (List ℕ × BeanId)
@@ -21,13 +19,7 @@ Entries = List (List ℕ × BeanId)
 pub keys-insert : {V : Type 0} (text : List ℕ) (id : V) (es : List (List ℕ × V))
     → keys_of (insert_entry byte_order es text id) ≡ insert_key byte_order (keys_of es) text
 keys-insert text id [] = refl
-keys-insert text id (e ∷ es) = by (byte_order text e.0) refl (keys-insert text id es)
-  where
-    by : (o : Ordering) → byte_order text e.0 ≡ o
-        → keys_of (insert_entry byte_order es text id) ≡ insert_key byte_order (keys_of es) text
-        → keys_of (insert_entry byte_order (e ∷ es) text id) ≡ insert_key byte_order (keys_of (e ∷ es)) text
-    by Greater is rest = rw is (ap (λ ks. e.0 ∷ ks) rest)
-    by other is rest = rw is refl
+keys-insert text id (e ∷ es) = grind (arith, keys-insert text id es, e.0)
 
 -- their texts in front of others
 abbrev added : List (List ℕ) → List Effective → List (List ℕ)
@@ -75,13 +67,7 @@ StandAtTexts es = AllByRecursion (λ e. text_of_id e.1 ≡ e.0) es
 
 insert-stands : (id : BeanId) (es : Entries) → StandAtTexts es → StandAtTexts (insert_entry byte_order es (text_of_id id) id)
 insert-stands id [] stand = (refl, tt)
-insert-stands id (e ∷ es) stand = by (byte_order (text_of_id id) e.0) refl (insert-stands id es stand.1)
-  where
-    by : (o : Ordering) → byte_order (text_of_id id) e.0 ≡ o → StandAtTexts (insert_entry byte_order es (text_of_id id) id)
-        → StandAtTexts (insert_entry byte_order (e ∷ es) (text_of_id id) id)
-    by Less is rest = rw is (refl, stand)
-    by Equal is rest = rw is (same_name (text_of_id id) e.0 is, stand.1)
-    by Greater is rest = rw is (stand.0, rest)
+insert-stands id (e ∷ es) stand = grind (arith, insert-stands id es stand.1, e.0, stand.1, stand.0, same_name)
 
 all-stand : (bs : List Effective) (es : Entries) → StandAtTexts es → StandAtTexts (fold with_dependent es bs)
 all-stand [] es stand = stand
@@ -94,13 +80,7 @@ all-stand (b ∷ bs) es stand = all-stand bs (with_dependent es b) (by (is_depen
 texts-kept : (test : List ℕ → Bool) (es : Entries) → StandAtTexts es
     → map text_of_id (map (λ e. e.1) (filter (λ e. test e.0) es)) ≡ filter test (keys_of es)
 texts-kept test [] stand = refl
-texts-kept test (e ∷ es) stand = by (test e.0) (texts-kept test es stand.1)
-  where
-    by : (t : Bool) → map text_of_id (map (λ e. e.1) (filter (λ e. test e.0) es)) ≡ filter test (keys_of es)
-        → map text_of_id (map (λ e. e.1) (cond t (e ∷ filter (λ e. test e.0) es) (filter (λ e. test e.0) es)))
-        ≡ cond t (e.0 ∷ filter test (keys_of es)) (filter test (keys_of es))
-    by true rest = ap (λ t. t ∷ map text_of_id (map (λ e. e.1) (filter (λ e. test e.0) es))) stand.0 ∙ ap (λ ts. e.0 ∷ ts) rest
-    by false rest = rest
+texts-kept test (e ∷ es) stand = grind (arith, texts-kept test es stand.1, e.0, stand.1, e.1, stand.0)
 
 -- the texts of the beans that need themselves rise
 pub circular-rise : (ds : List Decl) → IsStrictlySortedBy byte_order (map text_of_id (circular ds))
@@ -116,27 +96,15 @@ circular-rise ds =
 
 pub between-append : (nodes : List (List ℕ)) (some more : List Need) (x : List ℕ)
     → between nodes (some ++ more) x ≡ between nodes some x ++ between nodes more x
-between-append nodes some more x = by (has nodes x)
-  where
-    by : (t : Bool) → cond t (filter (has nodes) (needed_by (some ++ more) x)) []
-        ≡ cond t (filter (has nodes) (needed_by some x)) [] ++ cond t (filter (has nodes) (needed_by more x)) []
-    by true = ap (filter (has nodes)) (flat_map-append (λ need. cond (bytes_eq need.0 x) need.1 []) some more)
-        ∙ filter-append (has nodes) (needed_by some x) (needed_by more x)
-    by false = refl
+between-append nodes some more x = grind (arith, flat_map-append, filter-append)
 
 -- edges are between beans, in whatever order they stand
 pub between-like : (nodes others : List (List ℕ)) → ((x : List ℕ) → has nodes x ≡ has others x) → (all : List Need) (x : List ℕ)
     → between nodes all x ≡ between others all x
-between-like nodes others same all x =
-    ap (λ t. cond t (filter (has nodes) (needed_by all x)) []) (same x)
-    ∙ ap (λ ys. cond (has others x) ys []) (filter_agree (has nodes) (has others) same (needed_by all x))
+between-like nodes others same all x = grind (arith, filter_agree)
 
 pub between-none : (nodes : List (List ℕ)) (x : List ℕ) → between nodes [] x ≡ []
-between-none nodes x = by (has nodes x)
-  where
-    by : (t : Bool) → cond t (filter (has nodes) []) [] ≡ []
-    by true = refl
-    by false = refl
+between-none nodes x = grind arith
 
 -- an interceptor that is not enabled, or that needs none of some beans, adds no edge between them
 none-around : (ds : List Decl) (nodes : List (List ℕ)) (i : InterceptorDecl) (chosen : List (List ℕ)) (x : List ℕ)
@@ -171,10 +139,7 @@ adds-none-around ds nodes i chosen edges out x =
 -- those of some needs, and then those of more
 pub adds_more : (nodes : List (List ℕ)) (old new : Edges) (some more : List Need) → AddsNeeds nodes some old new
     → (x : List ℕ) → next_in new x ++ between nodes more x ≡ next_in old x ++ between nodes (some ++ more) x
-adds_more nodes old new some more adds x =
-    ap (λ ys. ys ++ between nodes more x) (adds x)
-    ∙ append_assoc (next_in old x) (between nodes some x) (between nodes more x)
-    ∙ ap (λ ys. next_in old x ++ ys) (sym (between-append nodes some more x))
+adds_more nodes old new some more adds x = grind (arith, append_assoc, between-append)
 
 -- a bean whose entry has now these behind what it had
 pub need_added : (nodes : List (List ℕ)) (old new : List ℕ → List (List ℕ)) (node : List ℕ) (needed items : List (List ℕ))

@@ -1,10 +1,10 @@
 -- No fault stands twice.
-use Rattle.cdi_validate.proofs.Common.{all-weaker, all-each, all-append, ◌≡◌, List, ◌++◌, sym, ap, ◌∙◌, append_assoc, flat_map, Promised}
-use Rattle.cdi_validate.proofs.Common.{Decl, beans, circles, faults, faults_of, name_clashes, name_prefixes, specialized_twice, ◌≢◌, ℕ}
-use Rattle.cdi_validate.proofs.Common.{Bool, true, false, [], ◌∷◌, map, filter, refl, arith, AllByRecursion, AllPairs, false≢true, Fault}
+use Rattle.cdi_validate.proofs.Common.{all-weaker, all-each, all-append, ◌≡◌, List, ◌++◌, sym, ◌∙◌, append_assoc, flat_map, Promised, Decl}
+use Rattle.cdi_validate.proofs.Common.{beans, circles, faults, faults_of, name_clashes, name_prefixes, specialized_twice, ◌≢◌, ℕ, Bool}
+use Rattle.cdi_validate.proofs.Common.{true, false, [], ◌∷◌, map, filter, refl, arith, AllByRecursion, AllPairs, false≢true, Fault}
 use Rattle.cdi_validate.proofs.Common.{enabled_names, subst, AreDistinct, text_of_fault, BeanId, circular, circle, Some, name_of_decl}
 use Rattle.cdi_validate.proofs.Common.{text_of_id, Effective, Option, None, nat_list_cmp_total, enabled_name, in_order-rises, kind_of}
-use Rattle.cdi_validate.proofs.Common.{key_of, DeclKey, in_text_order, faults_of_code, subjects_in_order}
+use Rattle.cdi_validate.proofs.Common.{key_of, DeclKey, in_text_order, faults_of_code, subjects_in_order, goes_on}
 use Rattle.cdi_faults.specs.{Codes.all_codes, Codes.code_of, declared.fault.Code.Code, declared.fault.Subject.Subject}
 use Rattle.cdi_faults.proofs.CodeLemmas.{codes_rise, code_order-total}
 use Rattle.cdi_faults.specs.FaultText.{text_of_subject}
@@ -12,9 +12,8 @@ use Rattle.cdi_faults.specs.declared.fault.Fault.TheVariants as faults_are
 use Rattle.cdi_subjects.specs.Subjects.{subjects_at_fault}
 use Rattle.cdi_validate.proofs.ApartLemmas.{Differ, Tagged, all-map, apart-filter, apart-more, apart-pairs, differ-append, differ-by}
 use Rattle.cdi_validate.proofs.ApartLemmas.{differ-flat_map, differ-map, pairs-apart, rising-differ}
-use Rattle.cdi_validate.proofs.NeedLemmas.{circular-rise}
-use Rattle.cdi_validate.proofs.TwiceLemmas.{twice-each, twice_rise}
-use Rattle.cdi_validate.specs.Faults.{goes_on, FaultsStandOnce}
+use Rattle.cdi_validate.proofs.{NeedLemmas.circular-rise, TwiceLemmas.twice-each, TwiceLemmas.twice_rise}
+use Rattle.cdi_validate.specs.Faults.{FaultsStandOnce}
 
 -- ---- faults of one declaration
 
@@ -30,9 +29,7 @@ of_code-differ ds book d code =
     (rising-differ nat_list_cmp_total (map text_of_subject (in_text_order ms)) (subjects_in_order ms).0))
 
 of_code-tagged : (ds : List Decl) (book : List Promised) (d : Decl) (code : Code) → Tagged code_of code (faults_of_code ds book d code)
-of_code-tagged ds book d code =
-    let ms = in_text_order (subjects_at_fault code ds book d) in
-    all-map (λ f. code_of f ≡ code) (faults_are.Declared code (kind_of d) (name_of_decl d)) ms (all-each _ (λ m. refl) ms)
+of_code-tagged ds book d code = grind (arith, all-map, all-each)
 
 of_decl-differ : (ds : List Decl) (book : List Promised) (d : Decl) → Differ (faults_of ds book d)
 of_decl-differ ds book d = differ-flat_map code_of (faults_of_code ds book d) (λ code. code) (of_code-tagged ds book d)
@@ -188,10 +185,7 @@ others-no_circle ds book =
     (prefixes-each P (λ x y. refl) (enabled_names bs) (enabled_names bs))
 
 one-circle : (a b : BeanId) → circle a ≡ circle b → a ≡ b
-one-circle a b e =
-    let classes : a.class ≡ b.class = cc in
-    let producers : a.producer ≡ b.producer = cc in
-    ap (λ c. record { class = c; producer = a.producer }) classes ∙ ap (λ p. record { class = b.class; producer = p }) producers
+one-circle a b e = grind (arith, a.class, b.class, a.producer, b.producer)
 
 circles-differ : (ds : List Decl) → Differ (circles ds)
 circles-differ ds = differ-map circle one-circle (circular ds) (differ-by text_of_id (circular ds)

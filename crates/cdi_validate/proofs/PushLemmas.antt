@@ -20,6 +20,4 @@ skipped f xs i x old total within at none all =
 
 -- where the list is as long as before nothing was pushed
 pub none-pushed : {A : Type 0} (old more all : List A) → all ≡ old ++ more → length all ≡ length old → more ≡ []
-none-pushed old more all pushed same =
-    let sum = ap length pushed ∙ length-append old more in
-    nil_from_length more (omega (arith, sum, same))
+none-pushed old more all pushed same = grind (arith, length-append, nil_from_length)

@@ -4,19 +4,18 @@ use Rattle.cdi_validate.proofs.Common.{length, map, filter, refl, IsStrictlySort
 use Rattle.cdi_validate.proofs.Common.{AreDistinct, BeanDecl, has, Edges, between, Some, inl, inr, append-nil, slice_get, one_text}
 use Rattle.cdi_validate.proofs.Common.{and-false, or_cases, or_right, same_Some, InterceptorDecl, BeanPlace, text_of_id, own-found}
 use Rattle.cdi_validate.proofs.Common.{is_enabled, stands_around, managed_id, need_around, ◌||◌, Option, None, none-some, Qual, ◌+◌, get_or}
-use Rattle.cdi_validate.proofs.Common.{unwrap_or, flat_map-append, map-append, drop, list_all, byte_order, IsFound, or_assoc, AddsNeeds}
-use Rattle.cdi_validate.proofs.Common.{Vec, Global, name_of_use, class_bindings, sets_of, next-left, rise-next, has_binding_in}
-use Rattle.cdi_validate.proofs.Common.{with_binding, AreByBinding, option_map}
+use Rattle.cdi_validate.proofs.Common.{unwrap_or, flat_map-append, map-append, drop, byte_order, IsFound, or_assoc, AddsNeeds, Vec, Global}
+use Rattle.cdi_validate.proofs.Common.{name_of_use, class_bindings, sets_of, next-left, rise-next, has_binding_in, with_binding}
+use Rattle.cdi_validate.proofs.Common.{AreByBinding, option_map, arith, next_in, beans_in}
 use Rattle.std.proofs.lemmas.Option.{slice_get-get_or, slice_get-map}
 use Rattle.std.specs.Borrow.{Bor}
 use Rattle.cdi_model.specs.declared.decl.Decl.TheVariants as decls
 use Rattle.cdi_model.specs.declared.decl.UseKind.TheVariants as use_kinds
 use Rattle.cdi_match.specs.Covering.{covers, covers_by}
-use Rattle.cdi_intercept.specs.Chains.{binds, covered_in, surrounds, surrounds_one}
+use Rattle.cdi_intercept.specs.Chains.{covered_in, surrounds, surrounds_one}
 use Rattle.cdi_resolve.proofs.PlaceLemmas.{none-after}
-use Rattle.cdi_circles.specs.Edges.{next_in}
 use Rattle.cdi_validate.proofs.NeedLemmas.{between-append, between-none}
-use Rattle.cdi_validate.specs.Surrounded.{beans_in, has_binding_at_place, may_surround, BeansByBinding}
+use Rattle.cdi_validate.specs.Surrounded.{has_binding_at_place, may_surround, BeansByBinding}
 
 -- ---- lists, one element after another
 
@@ -96,10 +95,7 @@ has-covered ds (have ∷ set) want covered =
 
 first-covered : (ds : List Decl) (set : List Qual) (place : BeanPlace) (i : InterceptorDecl) (b : Qual) (bs : List Qual)
     → i.bindings ≡ b ∷ bs → surrounds ds set place i ≡ true → covered_in ds set b ≡ true
-first-covered ds set place i b bs are stands =
-    let each : list_all (covered_in ds set) i.bindings ≡ true =
-    (and_parts _ (list_all (covered_in ds set) i.bindings) (and_parts _ (binds ds set i) stands).1).1 in
-    (and_parts (covered_in ds set b) (list_all (covered_in ds set) bs) (ap (list_all (covered_in ds set)) (sym are) ∙ each)).0
+first-covered ds set place i b bs are stands = grind (arith, i.bindings)
 
 has-first : (ds : List Decl) (sets : List (BeanPlace × List Qual)) (i : InterceptorDecl) (b : Qual) (bs : List Qual) → i.bindings ≡ b ∷ bs
     → surrounds_one ds sets i ≡ true → has_binding_in sets b.name ≡ true
@@ -192,9 +188,7 @@ around-first ds nodes i b bs chosen x are (e ∷ es) =
 none-given : (ds : List Decl) (i : InterceptorDecl) (chosen : List (List ℕ)) → i.bindings ≡ [] → (es : List Decl)
     → flat_map (need_around ds i chosen) es ≡ []
 none-given ds i chosen none [] = refl
-none-given ds i chosen none (decls.Bean d ∷ es) =
-    ap (λ t. cond t ((text_of_id (managed_id d), chosen) ∷ []) [] ++ flat_map (need_around ds i chosen) es) (none-unbound ds i d none)
-    ∙ none-given ds i chosen none es
+none-given ds i chosen none (decls.Bean d ∷ es) = grind (arith, none-given ds i chosen none es, none-unbound)
 none-given ds i chosen none (other ∷ es) = none-given ds i chosen none es
 
 -- so the beans around which an interceptor may stand are enough

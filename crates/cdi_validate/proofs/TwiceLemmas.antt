@@ -1,12 +1,12 @@
 -- Enabled beans whose chains share a bean.
 use Rattle.cdi_validate.proofs.Common.{◌≡◌, List, ◌++◌, sym, ap, ◌∙◌, flat_map, Decl, specialized_twice, ◌≢◌, ℕ, Bool, true, false, cond}
-use Rattle.cdi_validate.proofs.Common.{[], ◌∷◌, map, filter, Ordering, Less, Equal, refl, AllByRecursion, IsStrictlySortedBy, and_parts}
-use Rattle.cdi_validate.proofs.Common.{false≢true, Fault, not, ◌&&◌, subst, find, option_to_list, bytes_eq, or_left, AreDistinct, BeanDecl}
-use Rattle.cdi_validate.proofs.Common.{has, chain, class_names, text_of_fault, specializing, enabled_bean, one_text, same_text}
-use Rattle.cdi_validate.proofs.Common.{enabled_beans, faults_of_pairs, faults_of_two, of_pairs, twice, keys_of, Some, inl, inr, or_cases}
-use Rattle.cdi_validate.proofs.Common.{or_right, effective, managed, ◌||◌, Option, None, list_any, is_replaced, fold, other_text, Greater}
-use Rattle.cdi_validate.proofs.Common.{insert_key, byte_order, in_order, in_order-rises, key_of, limit, behind, or_parts, or_assoc, or_comm}
-use Rattle.cdi_validate.proofs.Common.{same_name, by_line, with_line, all-weaker, all-append}
+use Rattle.cdi_validate.proofs.Common.{[], ◌∷◌, map, filter, refl, AllByRecursion, IsStrictlySortedBy, and_parts, false≢true, Fault, not}
+use Rattle.cdi_validate.proofs.Common.{subst, find, option_to_list, bytes_eq, or_left, AreDistinct, BeanDecl, has, chain, class_names}
+use Rattle.cdi_validate.proofs.Common.{text_of_fault, specializing, enabled_bean, one_text, same_text, enabled_beans, faults_of_pairs}
+use Rattle.cdi_validate.proofs.Common.{faults_of_two, of_pairs, twice, keys_of, Some, inl, inr, or_cases, or_right, effective, managed}
+use Rattle.cdi_validate.proofs.Common.{◌||◌, None, list_any, is_replaced, fold, other_text, insert_key, byte_order, in_order}
+use Rattle.cdi_validate.proofs.Common.{in_order-rises, key_of, limit, behind, or_parts, or_assoc, or_comm, same_name, by_line, with_line}
+use Rattle.cdi_validate.proofs.Common.{all-weaker, all-append, arith}
 use Rattle.std.proofs.lemmas.Bool.{not-true}
 use Rattle.base_numbers.proofs.Texts.{bytes_eq-turned}
 use Rattle.cdi_model.specs.DeclKey.{key_at}
@@ -29,29 +29,16 @@ flat-none f none (x ∷ xs) = ap (λ ys. ys ++ flat_map f xs) (none x) ∙ flat-
 flat-filter : {X Y : Type 0} (f : X → List Y) (p : X → Bool) → ((x : X) → p x ≡ false → f x ≡ []) → (xs : List X)
     → flat_map f (filter p xs) ≡ flat_map f xs
 flat-filter f p none [] = refl
-flat-filter f p none (x ∷ xs) = by (p x) refl (flat-filter f p none xs)
-  where
-    by : (b : Bool) → p x ≡ b → flat_map f (filter p xs) ≡ flat_map f xs
-        → flat_map f (cond b (x ∷ filter p xs) (filter p xs)) ≡ f x ++ flat_map f xs
-    by true e more = ap (λ ys. f x ++ ys) more
-    by false e more = more ∙ ap (λ ys. ys ++ flat_map f xs) (sym (none x e))
+flat-filter f p none (x ∷ xs) = grind (arith, flat-filter f p none xs)
 
 pairs-filter : {X Y : Type 0} (f : X → X → List Y) (p : X → Bool) → ((x y : X) → p x ≡ false → f x y ≡ [])
     → ((x y : X) → p y ≡ false → f x y ≡ []) → (xs : List X) → of_pairs f (filter p xs) ≡ of_pairs f xs
 pairs-filter f p first second [] = refl
-pairs-filter f p first second (x ∷ xs) = by (p x) refl (pairs-filter f p first second xs)
-  where
-    by : (b : Bool) → p x ≡ b → of_pairs f (filter p xs) ≡ of_pairs f xs
-        → of_pairs f (cond b (x ∷ filter p xs) (filter p xs)) ≡ flat_map (f x) xs ++ of_pairs f xs
-    by true e more = ap (λ ys. ys ++ of_pairs f (filter p xs)) (flat-filter (f x) p (second x) xs)
-        ∙ ap (λ ys. flat_map (f x) xs ++ ys) more
-    by false e more = more ∙ ap (λ ys. ys ++ of_pairs f xs) (sym (flat-none (f x) (λ y. first x y e) xs))
+pairs-filter f p first second (x ∷ xs) = grind (arith, pairs-filter f p first second xs, flat-filter, flat-none)
 
 pairs-same : {X Y : Type 0} (f g : X → X → List Y) (xs : List X) → Apart (λ x y. f x y ≡ g x y) xs → of_pairs f xs ≡ of_pairs g xs
 pairs-same f g [] same = refl
-pairs-same f g (x ∷ xs) same =
-    ap (λ ys. ys ++ of_pairs f xs) (flat-same (f x) (g x) xs same.0)
-    ∙ ap (λ ys. flat_map (g x) xs ++ ys) (pairs-same f g xs same.1)
+pairs-same f g (x ∷ xs) same = grind (arith, pairs-same f g xs same.1, same.0, same.1, flat-same)
 
 find-same : {X : Type 0} (p q : X → Bool) (xs : List X) → AllByRecursion (λ x. p x ≡ q x) xs → find p xs ≡ find q xs
 find-same p q [] same = refl
@@ -119,18 +106,7 @@ enabled-parts ds b is = and_parts (not (is_replaced ds b.name)) (is_offered ds b
 
 not-behind : (ds : List Decl) (a b : BeanDecl) → IsEnabled ds a → IsEnabled ds b → has (class_names (behind ds b)) a.name ≡ false
 unfolding replaced_by is_replaced
-not-behind ds a b of_a of_b = by (has (class_names (behind ds b)) a.name) refl
-  where
-    offered : is_offered ds b ≡ true
-    offered = (enabled-parts ds b of_b.1).1
-
-    by : (t : Bool) → has (class_names (behind ds b)) a.name ≡ t → t ≡ false
-    by true e =
-        let replaces : has (replaced_by ds (decls.Bean b)) a.name ≡ true =
-        ap (λ o. has (cond o (class_names (behind ds b)) []) a.name) offered ∙ e in
-        absurd (false≢true (sym (not-true (is_replaced ds a.name) (enabled-parts ds a of_a.1).0)
-        ∙ of_b.0 (λ d. has (replaced_by ds d) a.name) replaces))
-    by false e = refl
+not-behind ds a b of_a of_b = grind (arith, a.name, of_b.1, of_a.1, of_b.0, enabled-parts, false≢true, not-true)
 
 -- ---- so it is enough to look behind two enabled beans
 
@@ -148,9 +124,7 @@ not-in_chain : (ds : List Decl) (a b : BeanDecl) → IsEnabled ds a → IsEnable
 not-in_chain ds a b of_a of_b other = ap (λ t. t || has (class_names (behind ds b)) a.name) other ∙ not-behind ds a b of_a of_b
 
 two-apart : (ds : List Decl) (a b : BeanDecl) → IsEnabled ds a → IsEnabled ds b → HaveOthers a b → are_apart ds a b ≡ true
-two-apart ds a b of_a of_b other =
-    ap (λ t. not t && not (is_in_chain ds a b.name)) (not-in_chain ds a b of_a of_b other)
-    ∙ ap not (not-in_chain ds b a of_b of_a (bytes_eq-turned a.name b.name ∙ other))
+two-apart ds a b of_a of_b other = grind (arith, b.name, a.name, not-in_chain, bytes_eq-turned)
 
 -- so their fault is that of the first shared class
 two-shared : (ds : List Decl) (a b : BeanDecl) → IsEnabled ds a → IsEnabled ds b → HaveOthers a b
@@ -208,13 +182,7 @@ Entries = List (List ℕ × Fault)
 all-has : (fs : List Fault) (es : Entries) (line : List ℕ)
     → has (keys_of (fold with_line es fs)) line ≡ (has (map text_of_fault fs) line || has (keys_of es) line)
 all-has [] es line = refl
-all-has (f ∷ fs) es line =
-    let own = bytes_eq (text_of_fault f) line in
-    let others = has (map text_of_fault fs) line in
-    all-has fs (with_line es f) line
-    ∙ ap (λ t. others || t) (ap (λ ks. has ks line) (keys-insert (text_of_fault f) f es) ∙ has-insert (text_of_fault f) (keys_of es) line)
-    ∙ sym (or_assoc others own (has (keys_of es) line))
-    ∙ ap (λ t. t || has (keys_of es) line) (or_comm others own)
+all-has (f ∷ fs) es line = grind (arith, all-has fs (with_line es f) line, keys-insert, has-insert, or_assoc, or_comm)
 
 -- they are texts in order
 keys-rise : (fs : List Fault) (es : Entries) (lines : List (List ℕ)) → keys_of es ≡ in_order lines
@@ -228,12 +196,7 @@ StandAtLines es = AllByRecursion (λ e. text_of_fault e.1 ≡ e.0) es
 
 insert-stands : (f : Fault) (es : Entries) → StandAtLines es → StandAtLines (with_line es f)
 insert-stands f [] stand = (refl, tt)
-insert-stands f (e ∷ es) stand = by (byte_order (text_of_fault f) e.0) refl (insert-stands f es stand.1)
-  where
-    by : (o : Ordering) → byte_order (text_of_fault f) e.0 ≡ o → StandAtLines (with_line es f) → StandAtLines (with_line (e ∷ es) f)
-    by Less is rest = rw is (refl, stand)
-    by Equal is rest = rw is (same_name (text_of_fault f) e.0 is, stand.1)
-    by Greater is rest = rw is (stand.0, rest)
+insert-stands f (e ∷ es) stand = grind (arith, insert-stands f es stand.1, e.0, stand.1, stand.0, same_name)
 
 all-stand : (fs : List Fault) (es : Entries) → StandAtLines es → StandAtLines (fold with_line es fs)
 all-stand [] es stand = stand
@@ -255,13 +218,7 @@ twice_rise ds =
 insert-all : (P : Fault → Type 0) (f : Fault) (es : Entries) → P f → AllByRecursion (λ e. P e.1) es
     → AllByRecursion (λ e. P e.1) (with_line es f)
 insert-all P f [] here all = (here, tt)
-insert-all P f (e ∷ es) here all = by (byte_order (text_of_fault f) e.0) refl (insert-all P f es here all.1)
-  where
-    by : (o : Ordering) → byte_order (text_of_fault f) e.0 ≡ o → AllByRecursion (λ e. P e.1) (with_line es f)
-        → AllByRecursion (λ e. P e.1) (with_line (e ∷ es) f)
-    by Less is rest = rw is (here, all)
-    by Equal is rest = rw is (here, all.1)
-    by Greater is rest = rw is (all.0, rest)
+insert-all P f (e ∷ es) here all = grind (arith, insert-all P f es here all.1, e.0, all.1, e.1, all.0)
 
 fold-all : (P : Fault → Type 0) (fs : List Fault) (es : Entries) → AllByRecursion P fs → AllByRecursion (λ e. P e.1) es
     → AllByRecursion (λ e. P e.1) (fold with_line es fs)
@@ -283,12 +240,7 @@ pairs-all P f each (x ∷ xs) = all-append P (flat_map (f x) xs) (of_pairs f xs)
 
 two-all : (P : Fault → Type 0) → ((a b class : List ℕ) → P (twice a b class)) → (ds : List Decl) (a b : BeanDecl)
     → AllByRecursion P (faults_of_two ds a b)
-two-all P each ds a b = by (are_apart ds a b) (first_shared ds a b)
-  where
-    by : (t : Bool) (o : Option (List ℕ)) → AllByRecursion P (cond t (map (twice a.name b.name) (option_to_list o)) [])
-    by true None = tt
-    by true (Some class) = (each a.name b.name class, tt)
-    by false o = tt
+two-all P each ds a b = grind (arith, a.name, b.name)
 
 pub twice-each : (P : Fault → Type 0) → ((a b class : List ℕ) → P (twice a b class)) → (ds : List Decl)
     → AllByRecursion P (specialized_twice ds)
@@ -318,9 +270,7 @@ lines_of fs = map text_of_fault fs
 
 lines-append : (fs gs : List Fault) (line : List ℕ) → has (lines_of (fs ++ gs)) line ≡ (has (lines_of fs) line || has (lines_of gs) line)
 lines-append [] gs line = refl
-lines-append (f ∷ fs) gs line =
-    ap (λ t. bytes_eq (text_of_fault f) line || t) (lines-append fs gs line)
-    ∙ sym (or_assoc (bytes_eq (text_of_fault f) line) (has (lines_of fs) line) (has (lines_of gs) line))
+lines-append (f ∷ fs) gs line = grind (arith, lines-append fs gs line, or_assoc)
 
 -- what two give is among what all pairs give
 module _ {X : Type 0} (f : X → X → List Fault) (all : List (List ℕ)) where
@@ -351,10 +301,7 @@ module _ {X : Type 0} (f : X → X → List Fault) (all : List (List ℕ)) where
 
 pub lines-told : (ds : List Decl) (line : List ℕ) → has (lines_of (faults_of_pairs ds)) line ≡ true → has (lines_of (specialized_twice ds)) line ≡ true
 unfolding specialized_twice
-lines-told ds line among =
-    let fs = faults_of_pairs ds in
-    ap (λ ks. has ks line) (lines-keys (by_line fs) (all-stand fs [] tt)) ∙ all-has fs [] line
-    ∙ or_left (has (lines_of fs) line) false among
+lines-told ds line among = grind (arith, lines-keys, all-stand, all-has)
 
 two-told : (ds : List Decl) (a b : BeanDecl) → IsEnabled ds a → IsEnabled ds b → HaveOthers a b
     → ((line : List ℕ) → has (lines_of (faults_of_two ds a b)) line ≡ true → has (lines_of (specialized_twice ds)) line ≡ true)

@@ -1,7 +1,6 @@
 use Rattle.cdi_validate.proofs.Common.{◌≡◌, List, ◌++◌, sym, ap, ◌∙◌, ℕ, Bool, true, false, cond, [], ◌∷◌, map, filter, refl, arith}
 use Rattle.cdi_validate.proofs.Common.{eqb-true, bytes_eq, nil_from_length, has, keys, Edges, between, Some, Option, None, get, unwrap_or}
-use Rattle.cdi_validate.proofs.Common.{at_name, byte_order, AddsNeeds, Vec, Global, texts_in, lent_value}
-use Rattle.cdi_circles.specs.Edges.{next_in}
+use Rattle.cdi_validate.proofs.Common.{at_name, byte_order, AddsNeeds, Vec, Global, texts_in, lent_value, next_in}
 use Rattle.cdi_circles.proofs.EdgeLemmas.{left_in, texts_in-put}
 use Rattle.cdi_validate.proofs.NeedLemmas.{need_added}
 use Rattle.cdi_validate.specs.Needed.{needed_first}

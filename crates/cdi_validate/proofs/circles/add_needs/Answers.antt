@@ -1,6 +1,5 @@
 use Rattle.cdi_validate.proofs.Common.{◌≡◌, ◌++◌, sym, ap, ◌∙◌, flat_map, true, map, subst, keys, between, mentions, point_named, need_in}
-use Rattle.cdi_validate.proofs.Common.{needs_in, IsFound, IfOk-weaker, are_answerable, key_of_point, points-answerable}
-use Rattle.cdi_circles.specs.Edges.{next_in}
+use Rattle.cdi_validate.proofs.Common.{needs_in, IsFound, IfOk-weaker, are_answerable, key_of_point, points-answerable, next_in}
 use Rattle.cdi_validate.proofs.circles.add_needs.Goals as goal
 
 pub add_needs_along-requires : goal.add_needs_along-requires

@@ -1,7 +1,6 @@
-use Rattle.cdi_validate.proofs.Common.{◌++◌, sym, ap, ◌∙◌, flat_map, arith, keys, between, append-nil, need_in}
+use Rattle.cdi_validate.proofs.Common.{◌++◌, sym, ap, ◌∙◌, flat_map, arith, keys, between, append-nil, need_in, next_in}
 use Rattle.std.proofs.lemmas.Grind.{common_steps}
 use Rattle.cdi_model.specs.Mentions.{shown}
-use Rattle.cdi_circles.specs.Edges.{next_in}
 use Rattle.cdi_validate.proofs.NeedLemmas.{adds_more, between-none}
 use Rattle.cdi_validate.proofs.circles.add_needs_along.Goals as goal
 

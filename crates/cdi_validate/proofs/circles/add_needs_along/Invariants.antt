@@ -1,6 +1,5 @@
 use Rattle.cdi_validate.proofs.Common.{◌≡◌, List, ◌++◌, flat_map, ℕ, true, map, keys, between, point_named, need_in, are_answerable}
-use Rattle.cdi_validate.proofs.Common.{key_of_point}
-use Rattle.cdi_circles.specs.Edges.{next_in}
+use Rattle.cdi_validate.proofs.Common.{key_of_point, next_in}
 use Rattle.cdi_validate.proofs.circles.add_needs_along.Given as goal
 
 abbrev pub invariant-loop-mention : goal.invariant-loop-mention

@@ -1,14 +1,12 @@
 use Rattle.cdi_validate.proofs.Common.{◌≡◌, List, ◌++◌, sym, ap, ◌∙◌, flat_map, Decl, true, [], map, filter, arith, eqb-true, subst}
 use Rattle.cdi_validate.proofs.Common.{nil_from_length, has, keys, between, inl, inr, append-nil, PointDecl, answer_to, points-declared}
 use Rattle.cdi_validate.proofs.Common.{chosen_for, chosen_one, need_around, ◌+◌, drop, Choice, next-left, lent_value, are_answerable}
-use Rattle.cdi_validate.proofs.Common.{key_of_point, points-answerable, drop_all}
+use Rattle.cdi_validate.proofs.Common.{key_of_point, points-answerable, drop_all, next_in, beans_in}
 use Rattle.std.specs.Option.{option_copied}
 use Rattle.cdi_model.specs.declared.decl.Decl.TheVariants as declared
 use Rattle.cdi_observe.specs.declared.lent.Lent.{Lent}
-use Rattle.cdi_circles.specs.Edges.{next_in}
 use Rattle.cdi_validate.proofs.NeedLemmas.{adds_more, adds-none-around, between-none, chosen_by_answers}
 use Rattle.cdi_validate.proofs.SurroundLemmas.{adds-none-may, around-may, bean-found}
-use Rattle.cdi_validate.specs.Surrounded.{beans_in}
 use Rattle.cdi_validate.proofs.circles.add_needs_around.Goals as goal
 
 -- what the answers that are lent choose

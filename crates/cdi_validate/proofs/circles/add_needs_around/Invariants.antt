@@ -1,6 +1,5 @@
-use Rattle.cdi_validate.proofs.Common.{◌≡◌, List, ◌++◌, flat_map, ℕ, map, keys, between, chosen_for, need_around, drop}
+use Rattle.cdi_validate.proofs.Common.{◌≡◌, List, ◌++◌, flat_map, ℕ, map, keys, between, chosen_for, need_around, drop, next_in}
 use Rattle.cdi_model.specs.declared.decl.Decl.TheVariants as declared
-use Rattle.cdi_circles.specs.Edges.{next_in}
 use Rattle.cdi_validate.proofs.circles.add_needs_around.Given as goal
 
 abbrev pub invariant-loop-bean : goal.invariant-loop-bean

@@ -1,8 +1,6 @@
 use Rattle.cdi_validate.proofs.Common.{◌≡◌, ◌++◌, sym, ap, ◌∙◌, append_assoc, flat_map, [], ◌∷◌, subst, keys, between, append-nil, needs_in}
-use Rattle.cdi_validate.proofs.Common.{is_at, lookup, byte_order, AreByBinding, texts_in}
-use Rattle.cdi_circles.specs.Edges.{next_in}
-use Rattle.cdi_validate.proofs.FoundLemmas.{found-next}
-use Rattle.cdi_validate.proofs.NeedLemmas.{adds_more, between-none}
+use Rattle.cdi_validate.proofs.Common.{is_at, lookup, byte_order, AreByBinding, texts_in, next_in}
+use Rattle.cdi_validate.proofs.{FoundLemmas.found-next, NeedLemmas.adds_more, NeedLemmas.between-none}
 use Rattle.cdi_validate.proofs.circles.edges_between.Goals as goal
 
 pub loop-decl-init : goal.loop-decl-init

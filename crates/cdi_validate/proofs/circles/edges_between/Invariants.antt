@@ -1,5 +1,4 @@
-use Rattle.cdi_validate.proofs.Common.{◌≡◌, List, ◌++◌, flat_map, Decl, ℕ, keys, between, needs, needs_in}
-use Rattle.cdi_circles.specs.Edges.{next_in}
+use Rattle.cdi_validate.proofs.Common.{◌≡◌, List, ◌++◌, flat_map, Decl, ℕ, keys, between, needs, needs_in, next_in}
 use Rattle.cdi_validate.proofs.circles.edges_between.Given as goal
 
 abbrev pub invariant-loop-decl : goal.invariant-loop-decl

@@ -3,8 +3,7 @@ use Rattle.std.specs.Result.{OnOk}
 use Rattle.base_options.proofs.Results.{OnOk-from, OnErr-from}
 use Rattle.cdi_observe.specs.{Kept.EvaluatesSome, Lending.IsEvaluated}
 use Rattle.cdi_observe.proofs.KeptLemmas.{evaluates_all}
-use Rattle.cdi_validate.proofs.BehindLemmas.{prefixes_go_on}
-use Rattle.cdi_validate.proofs.TwiceLemmas.{sharers_are_told}
+use Rattle.cdi_validate.proofs.{BehindLemmas.prefixes_go_on, TwiceLemmas.sharers_are_told}
 use Rattle.cdi_validate.proofs.deployment.faults.Goals as goal
 
 pub find-requires : goal.find-requires

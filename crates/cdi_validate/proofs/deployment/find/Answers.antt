@@ -1,8 +1,7 @@
 use Rattle.cdi_validate.proofs.Common.{◌≡◌, List, ◌++◌, sym, ap, ◌∙◌, flat_map, Promised, Decl, faults_together, looks_at_all, faults}
 use Rattle.cdi_validate.proofs.Common.{faults_of, ◌≢◌, map, refl, Fault, subst, IsFound, AllPairs}
 use Rattle.cdi_observe.proofs.FoundLemmas.{all-lent, each-found}
-use Rattle.cdi_validate.proofs.AmongLemmas.{told-all}
-use Rattle.cdi_validate.proofs.OnceLemmas.{faults_stand_once}
+use Rattle.cdi_validate.proofs.{AmongLemmas.told-all, OnceLemmas.faults_stand_once}
 use Rattle.cdi_validate.specs.declared.deployment.Together.{Together}
 use Rattle.cdi_validate.proofs.deployment.find.Goals as goal
 

@@ -1,7 +1,6 @@
 use Rattle.cdi_validate.proofs.Common.{◌≡◌, sym, ◌∙◌, beans, Bool, true, false, refl, false≢true, not}
-use Rattle.cdi_validate.proofs.LineLemmas.{prefixes_rise}
+use Rattle.cdi_validate.proofs.{LineLemmas.prefixes_rise, deployment.push_of_several.Goals.else-together-2}
 use Rattle.cdi_validate.proofs.deployment.push_of_several.Goals.{then-together+in_ok-names, else-together, then-together-2+in_ok-circles}
-use Rattle.cdi_validate.proofs.deployment.push_of_several.Goals.{else-together-2}
 use Rattle.cdi_validate.specs.Among.{SaysOf}
 use Rattle.cdi_validate.proofs.deployment.push_of_several.Goals as goal
 

@@ -1,7 +1,6 @@
 use Rattle.cdi_validate.proofs.Common.{◌≡◌, ◌++◌, sym, ap, ◌∙◌, append_assoc, flat_map, beans, [], ◌∷◌, length, arith, le-leb, enabled_name}
 use Rattle.std.proofs.lemmas.Bool.{lt-leb}
-use Rattle.cdi_validate.proofs.FoundLemmas.{all-gone, found-next}
-use Rattle.cdi_validate.proofs.CountLemmas.{count-gone, count-next}
+use Rattle.cdi_validate.proofs.{FoundLemmas.all-gone, FoundLemmas.found-next, CountLemmas.count-gone, CountLemmas.count-next}
 use Rattle.cdi_validate.proofs.names.have_names_at_most.Goals as goal
 
 pub records_of_decl-requires : goal.records_of_decl-requires

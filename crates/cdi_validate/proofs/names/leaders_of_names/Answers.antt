@@ -1,8 +1,7 @@
 use Rattle.cdi_validate.proofs.Common.{◌≡◌, List, ◌++◌, sym, ap, ◌∙◌, append_assoc, flat_map, ℕ, [], ◌∷◌, false≢true, subst, entries, is_at}
 use Rattle.cdi_validate.proofs.Common.{lookup, slice_cmp, nat_cmp, flat_map-append, Leaders, enabled_name, leaders_in, AreLed, AreNames}
-use Rattle.cdi_resolve.specs.Choices.{named}
-use Rattle.cdi_validate.proofs.ClashLemmas.{names-both}
-use Rattle.cdi_validate.proofs.FoundLemmas.{all-gone, found-next, records-next}
+use Rattle.cdi_validate.proofs.Common.{named}
+use Rattle.cdi_validate.proofs.{ClashLemmas.names-both, FoundLemmas.all-gone, FoundLemmas.found-next, FoundLemmas.records-next}
 use Rattle.cdi_validate.proofs.names.leaders_of_names.Goals as goal
 
 none-led : (entries : List (List ℕ × Leaders)) → entries ≡ []

@@ -1,9 +1,8 @@
 use Rattle.cdi_validate.proofs.Common.{◌≡◌, ◌++◌, sym, ap, ◌∙◌, append_assoc, true, false, [], ◌∷◌, map, filter, append-nil, ◌+◌, drop}
-use Rattle.cdi_validate.proofs.Common.{starts_with, nat_eq}
+use Rattle.cdi_validate.proofs.Common.{starts_with, nat_eq, goes_on}
 use Rattle.cdi_faults.specs.declared.fault.Fault.TheVariants as faults_are
 use Rattle.cdi_validate.proofs.NameLemmas.{none-left, some-left}
 use Rattle.cdi_validate.proofs.names.push_behind.Goals.{then-has_dot_behind+in_ok-push, else-has_dot_behind}
-use Rattle.cdi_validate.specs.Faults.{goes_on}
 use Rattle.cdi_validate.proofs.names.push_behind.Goals as goal
 
 pub returns-then-not-starts_with : goal.returns-then-not-starts_with

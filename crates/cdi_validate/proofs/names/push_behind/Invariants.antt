@@ -1,6 +1,5 @@
-use Rattle.cdi_validate.proofs.Common.{◌≡◌, ◌++◌, map, filter, drop}
+use Rattle.cdi_validate.proofs.Common.{◌≡◌, ◌++◌, map, filter, drop, goes_on}
 use Rattle.cdi_faults.specs.declared.fault.Fault.TheVariants as faults_are
-use Rattle.cdi_validate.specs.Faults.{goes_on}
 use Rattle.cdi_validate.proofs.names.push_behind.Given as goal
 
 abbrev pub invariant-loop-other : goal.invariant-loop-other

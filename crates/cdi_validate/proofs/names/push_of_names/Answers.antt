@@ -3,9 +3,7 @@ use Rattle.cdi_validate.proofs.Common.{length, arith, eqb-true, leb-true, enable
 use Rattle.std.proofs.lemmas.List.{length-map}
 use Rattle.base_lists.proofs.Flat.{append-empty}
 use Rattle.cdi_validate.proofs.ClashLemmas.{clashes-led, keys-named}
-use Rattle.cdi_validate.proofs.CountLemmas.{apart-if_as_many}
-use Rattle.cdi_validate.proofs.NameLemmas.{pairs-behind}
-use Rattle.cdi_validate.proofs.PushLemmas.{none-pushed}
+use Rattle.cdi_validate.proofs.{CountLemmas.apart-if_as_many, NameLemmas.pairs-behind, PushLemmas.none-pushed}
 use Rattle.cdi_validate.proofs.names.push_of_names.Goals.{then-len-before, else-len-before}
 use Rattle.cdi_validate.proofs.names.push_of_names.Goals as goal
 

@@ -1,7 +1,6 @@
 use Rattle.cdi_validate.proofs.Common.{◌++◌, sym, ap, ◌∙◌, append_assoc, map, filter, IsStrictlySortedBy, subst, slice_cmp, nat_cmp}
-use Rattle.cdi_validate.proofs.Common.{prefix_pairs}
+use Rattle.cdi_validate.proofs.Common.{prefix_pairs, goes_on}
 use Rattle.cdi_faults.specs.declared.fault.Fault.TheVariants as faults_are
-use Rattle.cdi_validate.specs.Faults.{goes_on}
 use Rattle.cdi_validate.proofs.names.push_prefixes.Goals as goal
 
 pub taken-preserved : goal.taken-preserved

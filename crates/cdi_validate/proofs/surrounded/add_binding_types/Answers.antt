@@ -1,5 +1,4 @@
-use Rattle.cdi_validate.proofs.Common.{ap, ◌∙◌, true, cond, map, refl, bytes_eq, has, at_name, byte_order, name_of_use, uses_in}
-use Rattle.std.specs.BTreeSet.{contains}
+use Rattle.cdi_validate.proofs.Common.{ap, ◌∙◌, true, cond, map, refl, bytes_eq, has, at_name, byte_order, name_of_use, uses_in, contains}
 use Rattle.base_options.proofs.Booleans.{cond-or}
 use Rattle.cdi_validate.proofs.SurroundLemmas.{one-next}
 use Rattle.cdi_validate.proofs.surrounded.add_binding_types.Goals as goal

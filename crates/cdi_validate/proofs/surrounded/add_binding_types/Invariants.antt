@@ -1,5 +1,4 @@
-use Rattle.cdi_validate.proofs.Common.{◌≡◌, List, ℕ, map, has, ◌||◌, drop, byte_order, name_of_use, uses_in}
-use Rattle.std.specs.BTreeSet.{contains}
+use Rattle.cdi_validate.proofs.Common.{◌≡◌, List, ℕ, map, has, ◌||◌, drop, byte_order, name_of_use, uses_in, contains}
 use Rattle.cdi_validate.proofs.surrounded.add_binding_types.Given as goal
 
 abbrev pub invariant-loop-binding : goal.invariant-loop-binding

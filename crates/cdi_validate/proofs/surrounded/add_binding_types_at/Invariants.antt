@@ -1,5 +1,4 @@
-use Rattle.cdi_validate.proofs.Common.{◌≡◌, List, ℕ, map, ◌||◌, drop, byte_order, has_binding_in, uses_at}
-use Rattle.std.specs.BTreeSet.{contains}
+use Rattle.cdi_validate.proofs.Common.{◌≡◌, List, ℕ, map, ◌||◌, drop, byte_order, has_binding_in, uses_at, contains}
 use Rattle.cdi_validate.proofs.surrounded.add_binding_types_at.Given as goal
 
 abbrev pub invariant-loop-set : goal.invariant-loop-set

@@ -1,8 +1,6 @@
 use Rattle.cdi_validate.proofs.Common.{◌≡◌, ◌++◌, ap, ◌∙◌, specialized_twice, length, map, arith, eqb-true, in_line_order, faults_between}
 use Rattle.cdi_validate.proofs.Common.{values}
-use Rattle.cdi_validate.proofs.ChainlessLemmas.{faultless_twice}
-use Rattle.cdi_validate.proofs.LinkLemmas.{kept-faults}
-use Rattle.cdi_validate.proofs.PushLemmas.{none-pushed}
+use Rattle.cdi_validate.proofs.{ChainlessLemmas.faultless_twice, LinkLemmas.kept-faults, PushLemmas.none-pushed}
 use Rattle.cdi_validate.proofs.twice.push_of_twice.Goals as goal
 
 pub returns-clause-faults : goal.returns-clause-faults
