@@ -6,12 +6,9 @@ use Rattle.cdi_legal.proofs.Common.{Request, Application, Point, is_normal, appl
 use Rattle.cdi_legal.proofs.Common.{all-weaker}
 use Rattle.std.proofs.lemmas.{Bool.cases_Bool, List.length-append}
 use Rattle.cdi_model.specs.declared.decl.Scope.TheVariants as scopes
-use Rattle.cdi_legal.proofs.Along.{ends_along, runs_along, IsAlong, Nothing}
-use Rattle.cdi_legal.proofs.Course.{IsOutside, MayBegin}
+use Rattle.cdi_legal.proofs.{Along.ends_along, Along.runs_along, Along.IsAlong, Along.Nothing, Course.IsOutside, Course.MayBegin}
+use Rattle.cdi_legal.proofs.{Furnishing.all-step, Furnishing.ends-all, Keeping.all-more, Rooting.context-gone}
 use Rattle.cdi_legal.proofs.Everywhere.{each_point, everywhere, kept_everywhere, then, Holds, HoldsAfterEach, Lasts}
-use Rattle.cdi_legal.proofs.Furnishing.{all-step, ends-all}
-use Rattle.cdi_legal.proofs.Keeping.{all-more}
-use Rattle.cdi_legal.proofs.Rooting.{context-gone}
 use Rattle.cdi_legal.proofs.Sharing.{count, fewer_after, single-calm, single_along, Test}
 use Rattle.cdi_legal.specs.Laws.{CommandsKeepBudget, CommandsKeepThroughout, IsKeptByCommands, IsKeptThroughout, IsRequested, IsSingleAt}
 use Rattle.cdi_legal.specs.Laws.{IsWithinLimit}

@@ -10,11 +10,10 @@ use Rattle.cdi_model.specs.declared.decl.Scope.TheVariants as scopes
 use Rattle.cdi_model.specs.declared.outcome.Failure.TheVariants as failures
 use Rattle.cdi_bodies.specs.declared.act.Act.TheVariants.{Fail}
 use Rattle.cdi_legal.proofs.Along.{ends_along, given_any, legal_along, IsAlong, IsKept, Nothing}
-use Rattle.cdi_legal.proofs.Bounding.{commands_keep_budget}
+use Rattle.cdi_legal.proofs.{Bounding.commands_keep_budget, Ordering.step, Ordering.there-bean, Ordering.HasRoom, Ordering.IsGood}
 use Rattle.cdi_legal.proofs.Course.{outside-nobody, outside-param, outside-point, own_begins, product_there, shared_begins, Given, MayBegin}
 use Rattle.cdi_legal.proofs.Following.{follows_along, follows_kept, legal_follows}
 use Rattle.cdi_legal.proofs.Ordering.{asking, asking-opened, entered, legal_ordered, limits, nothing-open, order_claims, over, room-more}
-use Rattle.cdi_legal.proofs.Ordering.{step, there-bean, HasRoom, IsGood}
 use Rattle.cdi_legal.specs.declared.entry.Made.TheVariants.{Instance as Obtained}
 use Rattle.cdi_legal.specs.{Acts.ending, Acts.ignored, Causes.Cause, Causes.Passes, Laws.CommandsFailForCauses, LegalRun.depth}
 use Rattle.cdi_legal.specs.{Legal.answered, Legal.produced, declared.entry.Answered.Answered, declared.entry.Made.Made}

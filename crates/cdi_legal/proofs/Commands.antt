@@ -4,9 +4,8 @@ use Rattle.cdi_legal.proofs.Common.{Scope, Standing, closed, Instance, beginning
 use Rattle.cdi_legal.proofs.Common.{LegalRun, LegalRequestEnd, LegalEnd, IsSingle}
 use Rattle.cdi_model.specs.declared.decl.Scope.TheVariants as scopes
 use Rattle.cdi_legal.proofs.Following.{ends_follow, runs_follow, then}
-use Rattle.cdi_legal.proofs.Growing.{ends_grow, runs_grow}
+use Rattle.cdi_legal.proofs.{Growing.ends_grow, Growing.runs_grow, Sharing.ends_single, Sharing.runs_single}
 use Rattle.cdi_legal.proofs.Settling.{Settled, context_settled, runs_settled, sound_apart}
-use Rattle.cdi_legal.proofs.Sharing.{ends_single, runs_single}
 use Rattle.cdi_legal.specs.Laws.{CommandsKeepFurnished, CommandsKeepSingle, CommandsRaiseGiven, EmptyEnds}
 
 -- ---- at most one instance of each bean with a normal scope

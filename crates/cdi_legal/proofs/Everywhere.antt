@@ -2,9 +2,7 @@
 use Rattle.cdi_legal.proofs.Common.{◌≡◌, ℕ, false, refl, IsFull, InstanceId, Owner, Scene, Moment, put, ask_more, is_create, Entry, Create}
 use Rattle.cdi_legal.proofs.Common.{List, [], ◌∷◌, subst, sym, Standing, step, Throughout, after, ◌++◌, append_assoc, arith}
 use Rattle.std.proofs.Common.{append-nil}
-use Rattle.cdi_legal.proofs.Along.{IsAlong, IsKept}
-use Rattle.cdi_legal.proofs.Course.{MayBegin}
-use Rattle.cdi_legal.proofs.Following.{after-append}
+use Rattle.cdi_legal.proofs.{Along.IsAlong, Along.IsKept, Course.MayBegin, Following.after-append}
 use Rattle.cdi_legal.specs.Follows as Follows
 
 -- it holds after each of these entries

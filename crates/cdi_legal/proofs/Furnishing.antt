@@ -7,8 +7,7 @@ use Rattle.cdi_legal.proofs.Common.{is_at, is_part_of, same_actor, IsOwnerOf, wi
 use Rattle.cdi_legal.proofs.Common.{IsRising-finished, IsRising-stored, HasDependents, IsStill, is_beginning}
 use Rattle.cdi_contexts.specs.Rising.{RisesFrom}
 use Rattle.cdi_contexts.proofs.{Last.last_of_all, Rising.rises_bound}
-use Rattle.cdi_legal.proofs.Along.{IsKept, ends_along, touch_along}
-use Rattle.cdi_legal.proofs.Sharing.{same-keep, same-finish}
+use Rattle.cdi_legal.proofs.{Along.IsKept, Along.ends_along, Along.touch_along, Sharing.same-keep, Sharing.same-finish}
 use Rattle.cdi_legal.proofs.Keeping.{Test, found_by, Rises, still-without, still-keep, all-without, all-map}
 use Rattle.cdi_legal.specs.Ends as ends
 use Rattle.cdi_legal.specs.Moment as effects

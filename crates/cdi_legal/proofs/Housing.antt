@@ -7,12 +7,10 @@ use Rattle.cdi_legal.proofs.Common.{Held, for_param, Refused, IsRising, LegalRun
 use Rattle.cdi_legal.proofs.Common.{is_part_of, IsOwnerOf, ◌⊎◌, IsSome, numbered, IsRising-more, destroy, dependents, held, made_is}
 use Rattle.cdi_legal.proofs.Common.{held_is, IsHome}
 use Rattle.cdi_model.specs.declared.decl.Scope.TheVariants as scopes
-use Rattle.cdi_legal.proofs.Along.{touch_along}
-use Rattle.cdi_legal.proofs.Growing.{legal_grows}
+use Rattle.cdi_legal.proofs.{Along.touch_along, Growing.legal_grows, Supplying.kept-in, Supplying.last-in}
 use Rattle.cdi_legal.proofs.Keeping.{Rises, all-more, begun, given-more, legal_older, older, owned-context, owned-param, still-more}
 use Rattle.cdi_legal.proofs.Furnishing.{all-above, all-given, ends-all, ends-rise, found-such, none-left, rises-kept}
 use Rattle.cdi_legal.proofs.Settling.{Begins, owns, same-given, new_one}
-use Rattle.cdi_legal.proofs.Supplying.{kept-in, last-in}
 use Rattle.cdi_legal.proofs.Rooting.{AreHome, Also, AlsoParts, Free, IsCalm, IsIn, NoNumber, Stay, calm-begins, context-gone}
 use Rattle.cdi_legal.proofs.Rooting.{dependents-gone, destroyed-home, ends-home, held-home, home-entry, home-lost, home-stay, home-touch}
 use Rattle.cdi_legal.proofs.Rooting.{narrower, no-parts, of_number, some-of, stay-still, wider}

@@ -4,10 +4,8 @@ use Rattle.cdi_legal.proofs.Common.{Moment, ◌+◌, ◌≤◌, inl, inr, true, 
 use Rattle.cdi_legal.proofs.Common.{Target, Interceptor, Instance, Point, is_normal, Option, Val, Null, bean_at, Bean, Injection, create}
 use Rattle.cdi_legal.proofs.Common.{◌++◌, map, slice_get, is_at, same_actor, IsOwnerOf, finish, ◌⊎◌, IsRising-more, made_is, nat_lt}
 use Rattle.cdi_legal.proofs.Common.{slice_get_within, nat_tests, IsDependent}
-use Rattle.cdi_legal.proofs.Growing.{legal_grows}
+use Rattle.cdi_legal.proofs.{Growing.legal_grows, Sharing.same-finish, Furnishing.found-such, Furnishing.all-given, Furnishing.at}
 use Rattle.cdi_legal.proofs.Keeping.{Terms, Test, found_by, IsFree, Rises, Older, legal_older, older, begun}
-use Rattle.cdi_legal.proofs.Sharing.{same-finish}
-use Rattle.cdi_legal.proofs.Furnishing.{found-such, all-given, at}
 use Rattle.cdi_legal.specs.declared.entry.Made.TheVariants.{Instance as Obtained}
 use Rattle.cdi_legal.specs.{Furnished.IsMade, Legal.inject, Legal.failure_is, Legal.product_of}
 

@@ -8,8 +8,7 @@ use Rattle.cdi_legal.proofs.Common.{if◌then◌else◌, IsOwnerOf, without, kee
 use Rattle.cdi_legal.proofs.Common.{IsRising-stored, IsStill, numbered, IsRising-more, made_is, held_is, find}
 use Rattle.cdi_model.specs.declared.decl.Scope.TheVariants as scopes
 use Rattle.cdi_contexts.proofs.Last.{young_if}
-use Rattle.cdi_legal.proofs.Growing.{legal_grows}
-use Rattle.cdi_legal.proofs.Sharing.{same-keep, same-finish}
+use Rattle.cdi_legal.proofs.{Growing.legal_grows, Sharing.same-keep, Sharing.same-finish}
 use Rattle.cdi_legal.specs.declared.entry.Made.TheVariants.{Instance as Obtained}
 use Rattle.cdi_legal.specs.Keeps.{Keeps}
 use Rattle.cdi_legal.specs.Ends as ends

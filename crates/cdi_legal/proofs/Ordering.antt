@@ -10,8 +10,7 @@ use Rattle.cdi_legal.proofs.Course.{ends_course, legal_course, outside-nobody, o
 use Rattle.cdi_legal.proofs.Course.{IsCourse, IsEnding, Leads, LeadsEnd, MayBegin, Relations, Writes}
 use Rattle.cdi_legal.proofs.Points.{entry_more, point_more}
 use Rattle.cdi_legal.specs.Opened.{acting, closes, destruction, is_ending, opened_after, outside, proceeding, turn, turned, IsInLimits}
-use Rattle.cdi_legal.specs.Opened.{IsWithin, Turn}
-use Rattle.cdi_legal.specs.{Laws.CommandsAreOrdered, Placed.Creates, Placed.IsInPlace, Placed.RunsAt}
+use Rattle.cdi_legal.specs.{Opened.IsWithin, Opened.Turn, Laws.CommandsAreOrdered, Placed.Creates, Placed.IsInPlace, Placed.RunsAt}
 use Rattle.cdi_legal.proofs.Course as course
 
 -- the entries so far

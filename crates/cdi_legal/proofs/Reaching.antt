@@ -5,9 +5,8 @@ use Rattle.cdi_scene.specs.{Sound.IsNamed, declared.scene.CallSite.CallSite, dec
 use Rattle.cdi_scene.specs.declared.scene.Via.TheVariants.{Own, Param}
 use Rattle.cdi_legal.proofs.Furnishing.{at as at_point, found-such}
 use Rattle.cdi_legal.proofs.Settling.{IsApart, Settled, obtained_has}
-use Rattle.cdi_legal.specs.Legal.{at, dependent_of, number_of, reach}
+use Rattle.cdi_legal.specs.{Legal.at, Legal.dependent_of, Legal.number_of, Legal.reach, Furnished.IsServed}
 use Rattle.cdi_legal.specs.declared.entry.Made.TheVariants.{Instance as Obtained}
-use Rattle.cdi_legal.specs.Furnished.{IsServed}
 
 -- the instance is there, and has its own dependent objects
 pub record IsReached (s : Scene) (live : List Instance) (seat : Seat) (h : Held) (via : Via) (b : ℕ) : Type 0 where

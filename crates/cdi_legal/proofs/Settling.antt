@@ -10,11 +10,9 @@ use Rattle.cdi_legal.proofs.Common.{nat_tests}
 use Rattle.std.proofs.lemmas.Bool.{and_parts}
 use Rattle.cdi_scene.specs.Scene.{as_managed}
 use Rattle.cdi_scene.specs.declared.scene.Form.TheVariants as forms
-use Rattle.cdi_legal.proofs.Along.{touch_along}
-use Rattle.cdi_legal.proofs.Growing.{legal_grows}
+use Rattle.cdi_legal.proofs.{Along.touch_along, Growing.legal_grows, Sharing.same-finish}
 use Rattle.cdi_legal.proofs.Keeping.{Admits, AdmitsFor, IsFree, Older, Owns, Rises, Terms, WasGiven, all-more, all-map, begun, created}
 use Rattle.cdi_legal.proofs.Keeping.{given-more, legal_older, older, owned-context, owned-param, still-finish, still-more, Test, uses_older}
-use Rattle.cdi_legal.proofs.Sharing.{same-finish}
 use Rattle.cdi_legal.proofs.Furnishing.{AllSpare, AreFurnished, IsPlain, IsSpare, Others, Outside, all-both, all-given, all-owned, at}
 use Rattle.cdi_legal.proofs.Furnishing.{ends-all, ends-rise, ends_furnished, fewer, found-such, furnished-without, has-still, none-left}
 use Rattle.cdi_legal.proofs.Furnishing.{plain, rises-kept, touch-furnished, is_plain_kept}

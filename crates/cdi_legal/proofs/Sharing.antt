@@ -7,8 +7,7 @@ use Rattle.cdi_legal.proofs.Common.{map, if◌then◌else◌, without, keep, fin
 use Rattle.std.proofs.Common.{filter}
 use Rattle.cdi_model.specs.declared.decl.Scope.TheVariants as scopes
 use Rattle.cdi_legal.proofs.Along.{asks_for, ends_along, legal_along, runs_along, IsAlong}
-use Rattle.cdi_legal.proofs.Course.{Given, MayBegin}
-use Rattle.cdi_legal.proofs.Everywhere.{everywhere, kept_everywhere, Holds}
+use Rattle.cdi_legal.proofs.{Course.Given, Course.MayBegin, Everywhere.everywhere, Everywhere.kept_everywhere, Everywhere.Holds}
 use Rattle.cdi_legal.specs.Single.{instances_of, strays_of}
 use Rattle.cdi_legal.specs.Moment as effects
 use Rattle.cdi_legal.specs.declared.entry.Entry.TheVariants as entries

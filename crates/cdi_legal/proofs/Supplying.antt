@@ -2,8 +2,7 @@
 use Rattle.cdi_legal.proofs.Common.{◌≡◌, ◌<◌, ℕ, None, Some, refl, InstanceId, Scene, Answer, Legal, Node, Moment, suc, ◌+◌, inl, inr, List}
 use Rattle.cdi_legal.proofs.Common.{[], ◌∷◌, length, arith, ap, subst, sym, ◌∙◌, Instance, Option, Held, ◌++◌, slice_get, zero, ◌⊎◌}
 use Rattle.cdi_legal.proofs.Common.{held_is, slice_get_within, IsDependent}
-use Rattle.cdi_legal.proofs.Growing.{legal_grows}
-use Rattle.cdi_legal.proofs.Injecting.{nat_cases, shared-clash}
+use Rattle.cdi_legal.proofs.{Growing.legal_grows, Injecting.nat_cases, Injecting.shared-clash}
 use Rattle.cdi_legal.proofs.Keeping.{Rises, WasGiven, given-more, owned-param}
 use Rattle.cdi_legal.proofs.Settling.{Begins, IsApart, Settled, created_has, has-after, legal_settled}
 use Rattle.cdi_legal.specs.Furnished.{IsHeld}
@@ -55,20 +54,28 @@ supplied_has {s} apart (Legal.proxy_supplied _ p b _ ps h x _ m _ p0 p1 p2 p3) g
         let one = a k c low there own in
         record { number = one.number; there = kept-in h None k (Some (nodes.at c one.number)) one.there; has = one.has }
 supplied_has {s} apart (Legal.dependent_supplied _ p b d product ps h x _ m m₁ _ p0 p1 p2 p3 p4) given settled len a =
-    grind (
-      arith,
-      m.standing.given,
-      m₁.standing.given,
-      m₁.standing.live,
-      settled.rises,
-      given-more,
-      legal_grows,
-      legal_settled,
-      owned-param,
-      longer,
-      nat_cases,
-      last-in,
-      created_has,
-      kept-in,
-      has-after,
-    )
+    supplied_has apart p4
+    (given-more product m.standing.given m₁.standing.given given (legal_grows p3))
+    (legal_settled apart p3 (owned-param product p m.standing.given given) settled)
+    (omega (arith, longer h (Some (nodes.at b d)), len))
+    (λ k c less there own. by k c less there own (nat_cases k p (omega (arith, less))))
+  where
+    by : (k c : ℕ) → k < p + 1 → slice_get ps k ≡ Some c → IsDependent s c → (k ≡ p) ⊎ (k < p)
+        → IsHeld s m₁.standing.live (h ++ Some (nodes.at b d) ∷ []) k c
+    by k c less there own (inl same) =
+        let both : Some b ≡ Some c = sym p0 ∙ ap (slice_get ps) (sym same) ∙ there in
+        let is : b ≡ c = cc in
+        let place : length h ≡ k = len ∙ sym same in
+        subst (IsHeld s m₁.standing.live (h ++ Some (nodes.at b d) ∷ []) k) is
+        (record {
+          number = d;
+          there = ap (slice_get (h ++ Some (nodes.at b d) ∷ [])) (sym place) ∙ last-in h (Some (nodes.at b d));
+          has = created_has apart p3 (owned-param product p m.standing.given given) settled;
+        })
+    by k c less there own (inr low) =
+        let one = a k c low there own in
+        record {
+          number = one.number;
+          there = kept-in h (Some (nodes.at b d)) k (Some (nodes.at c one.number)) one.there;
+          has = has-after (nodes.at c one.number) p3 (owned-param product p m.standing.given given) settled.rises one.has;
+        }

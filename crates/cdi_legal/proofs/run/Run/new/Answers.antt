@@ -1,8 +1,6 @@
 use Rattle.cdi_legal.proofs.Commands.{commands_keep_furnished, commands_keep_single, commands_raise_given, empty_ends}
 use Rattle.cdi_legal.proofs.Bounding.{commands_keep_budget, commands_keep_throughout}
-use Rattle.cdi_legal.proofs.Causing.{commands_fail_for_causes}
-use Rattle.cdi_legal.proofs.Faultless.{commands_are_faultless}
-use Rattle.cdi_legal.proofs.Ordering.{commands_are_ordered}
+use Rattle.cdi_legal.proofs.{Causing.commands_fail_for_causes, Faultless.commands_are_faultless, Ordering.commands_are_ordered}
 use Rattle.cdi_legal.proofs.Housing.{both_ends_leave_nothing, commands_keep_rooted}
 use Rattle.cdi_legal.proofs.run.Run.new.Goals as goal
 
