@@ -1,12 +1,11 @@
 -- What the words of a line, a line without its carriage return and the text of a put block are.
-use Rattle.cdi_lines.proofs.Common.{◌≡◌, ℕ, true, false, not, List, [], ◌∷◌, ◌++◌, refl, ap, sym, ◌∙◌, subst, inl, inr, append_assoc}
-use Rattle.cdi_lines.proofs.Common.{append-nil, ◌==◌, AllByRecursion, cases_Bool, eqb-true, eq-eqb, carriage_return, feed, space}
-use Rattle.cdi_lines.proofs.Common.{without_return, onto_words, begins_with_word, words_of}
+use Rattle.cdi_lines.proofs.Common.{◌≡◌, ℕ, true, false, List, [], ◌∷◌, ◌++◌, refl, ap, sym, ◌∙◌, inl, inr, append_assoc, append-nil, ◌==◌}
+use Rattle.cdi_lines.proofs.Common.{AllByRecursion, eqb-true, eq-eqb, carriage_return, feed, space, without_return, onto_words}
+use Rattle.cdi_lines.proofs.Common.{begins_with_word, words_of, arith}
 use Rattle.std.proofs.Common.{◌≢◌}
 use Rattle.std.specs.List.{fold, flat_map}
 use Rattle.std.proofs.lemmas.Bool.{false≢true}
-use Rattle.cdi_lines.specs.Words.{IsWithoutReturn, IsWord, IsBehindWord, AreWordsOf}
-use Rattle.cdi_lines.specs.{Lines.BlocksAreLines, Kept.with_line}
+use Rattle.cdi_lines.specs.{Words.IsWithoutReturn, Words.IsWord, Words.IsBehindWord, Words.AreWordsOf, Lines.BlocksAreLines, Kept.with_line}
 
 -- ---- words
 
@@ -39,23 +38,11 @@ alone b bs other behind are = ([], bs, tt, one_byte b other, refl, behind, are)
 joined : (b : ℕ) (bs : List ℕ) → b ≢ space → AreWordsOf bs (words_of bs)
     → AreWordsOf (b ∷ bs) (onto_words b (begins_with_word bs) (words_of bs))
 joined b [] other are = alone b [] other tt are
-joined b (c ∷ cs) other are = elim (cases_Bool (c == space)) [
-  | inl same ↦
-      let no : not (c == space) ≡ false = ap not same in
-      let whole : AreWordsOf (b ∷ c ∷ cs) ((b ∷ []) ∷ words_of (c ∷ cs)) = alone b (c ∷ cs) other (eqb-true c space same) are in
-      subst (λ v. AreWordsOf (b ∷ c ∷ cs) (onto_words b v (words_of (c ∷ cs)))) (sym no) whole
-  | inr e ↦
-      let yes : not (c == space) ≡ true = ap not e in
-      subst (λ v. AreWordsOf (b ∷ c ∷ cs) (onto_words b v (words_of (c ∷ cs)))) (sym yes)
-      (grown b c cs other (is_apart c e) (words_of (c ∷ cs)) are)
-]
+joined b (c ∷ cs) other are = grind (arith, alone, eqb-true, grown, is_apart)
 
 pub words_are : (line : List ℕ) → AreWordsOf line (words_of line)
 words_are [] = tt
-words_are (b ∷ bs) = elim (cases_Bool (b == space)) [
-  | inl same ↦ rw same (spaced b bs (eqb-true b space same) (words_of bs) (words_are bs))
-  | inr e ↦ rw e (joined b bs (is_apart b e) (words_are bs))
-]
+words_are (b ∷ bs) = grind (arith, words_are bs, spaced, eqb-true, joined, is_apart)
 
 -- ---- the carriage return at the end
 
@@ -75,10 +62,7 @@ is_without_return [] = inr (refl, none)
     none : (front : List ℕ) → [] ≢ front ++ carriage_return ∷ []
     none [] e = cc
     none (f ∷ front) e = cc
-is_without_return (b ∷ []) = elim (cases_Bool (b == carriage_return)) [
-  | inl return ↦ rw return (inl (ap (λ c. c ∷ []) (eqb-true b carriage_return return)))
-  | inr other ↦ rw other (inr (refl, none_alone b other))
-]
+is_without_return (b ∷ []) = grind (arith, eqb-true, none_alone)
 is_without_return (b ∷ c ∷ bs) = elim (is_without_return (c ∷ bs)) [
   | inl with_return ↦ inl (ap (λ l. b ∷ l) with_return)
   | inr without ↦ inr (ap (λ l. b ∷ l) without.0, none_at_end b c bs without.1)
@@ -89,11 +73,7 @@ is_without_return (b ∷ c ∷ bs) = elim (is_without_return (c ∷ bs)) [
 appended : (text : List ℕ) (lines : List (List ℕ))
     → fold with_line text lines ≡ text ++ flat_map (λ line. without_return line ++ feed ∷ []) lines
 appended text [] = sym (append-nil text)
-appended text (line ∷ lines) =
-    let end : List ℕ = flat_map (λ line. without_return line ++ feed ∷ []) lines in
-    appended (with_line text line) lines
-    ∙ ap (λ l. l ++ end) (append_assoc text (without_return line) (feed ∷ []))
-    ∙ append_assoc text (without_return line ++ feed ∷ []) end
+appended text (line ∷ lines) = grind (arith, appended (with_line text line) lines, append_assoc)
 
 pub blocks_are_lines : BlocksAreLines
 blocks_are_lines lines = appended [] lines
