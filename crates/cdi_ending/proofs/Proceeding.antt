@@ -7,8 +7,7 @@ use Rattle.cdi_contexts.specs.declared.instance.{Actor.Actor, InstanceId.Instanc
 use Rattle.cdi_scene.specs.declared.{place.Place.TheVariants.Pre, place.Seat.Seat, scene.Scene.Scene}
 use Rattle.cdi_legal.specs.{Acts.Permits, Ends.Ends, Ends.seat_on, Ends.asks_back, Moment.Moment}
 use Rattle.cdi_ending.proofs.Before.{both}
-use Rattle.cdi_ending.specs.Back.{is_proceeding, Proceeds, Pauses, Halts, with_answer}
-use Rattle.cdi_ending.specs.declared.shared.Shared.{Shared}
+use Rattle.cdi_ending.specs.{Back.is_proceeding, Back.Proceeds, Back.Pauses, Back.Halts, Back.with_answer, declared.shared.Shared.Shared}
 
 -- a frame that has proceeded ends where it would proceed again
 pub second_ends : (s : Scene) (seat : Seat) (k j : ℕ) (act : Act) (m : Moment) → Permits s seat act → is_proceeding act ≡ true

@@ -4,8 +4,7 @@ use Rattle.cdi_model.specs.declared.outcome.Outcome.{Outcome}
 use Rattle.cdi_contexts.specs.declared.instance.InstanceId.{InstanceId}
 use Rattle.cdi_scene.specs.{Scene.bean_at, Scene.product_at, Scene.as_product, declared.scene.Bean.Bean, declared.scene.Product.Product}
 use Rattle.cdi_scene.specs.declared.scene.Scene.{Scene}
-use Rattle.cdi_legal.specs.Legal.{Legal, Node, answered_is, answered}
-use Rattle.cdi_legal.specs.{Moment.Moment, declared.entry.Answered.Answered}
+use Rattle.cdi_legal.specs.{Legal.Legal, Legal.Node, Legal.answered_is, Legal.answered, Moment.Moment, declared.entry.Answered.Answered}
 use Rattle.cdi_run.specs.Known.{IsBegun}
 
 -- the form of a bean that is a product

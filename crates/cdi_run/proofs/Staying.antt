@@ -10,14 +10,12 @@ use Rattle.cdi_scene.specs.declared.scene.{Observer.Observer, Product.Product, S
 use Rattle.cdi_scene.specs.declared.place.Place.TheVariants as places
 use Rattle.cdi_legal.specs.Furnished.{HasDependents, IsDependent, IsFurnished, IsServed}
 use Rattle.cdi_legal.specs.Legal.{Legal, Node, Answer, at, create, dependent_of, failure_is, for_param, held_is, inject, made_is, obtain}
-use Rattle.cdi_legal.specs.Legal.{reach, supply}
-use Rattle.cdi_legal.specs.LegalRun.{LegalEnd, LegalRequestEnd, Runs, Command}
+use Rattle.cdi_legal.specs.{Legal.reach, Legal.supply, LegalRun.LegalEnd, LegalRun.LegalRequestEnd, LegalRun.Runs, LegalRun.Command}
 use Rattle.cdi_legal.specs.declared.entry.Made.TheVariants.{Instance as Obtained}
 use Rattle.cdi_legal.proofs.Settling.{Begins, IsApart, Settled, begin, created_has, has-after, has-injected, legal_settled, obtained_has}
-use Rattle.cdi_legal.proofs.Settling.{context_settled, runs_settled, sound_apart}
+use Rattle.cdi_legal.proofs.{Settling.context_settled, Settling.runs_settled, Settling.sound_apart, Keeping.WasGiven, Keeping.owned-param}
+use Rattle.cdi_legal.proofs.{Reaching.reaches, Reaching.reached_has, Supplying.AreHeld, Supplying.held-after, Supplying.supplied_has}
 use Rattle.cdi_legal.specs.{Ends.Held, Ends.seat_on, Ends.seat_of_class, Moment.Moment, Moment.put, declared.entry.Entry.Entry}
-use Rattle.cdi_legal.proofs.{Keeping.WasGiven, Keeping.owned-param, Reaching.reaches, Reaching.reached_has}
-use Rattle.cdi_legal.proofs.Supplying.{AreHeld, held-after, supplied_has}
 use Rattle.cdi_legal.specs.declared.entry.Entry.TheVariants as entries
 use Rattle.cdi_ending.specs.Staged.{Staged}
 use Rattle.cdi_run.specs.Known.{HostHas, IsBegun, IsSettled}

@@ -1,9 +1,8 @@
 use Rattle.std.proofs.Common.{rules, ◌≡◌, ◌∙◌, ◌≤◌, ◌+◌, length, None, ap, arith}
 use Rattle.cdi_bodies.specs.declared.act.Frame.{Frame}
 use Rattle.cdi_legal.specs.Ends.{Ends}
-use Rattle.cdi_ending.proofs.Before.{some_of}
+use Rattle.cdi_ending.proofs.{Before.some_of, Shrinking.Shrinks-trans}
 use Rattle.cdi_ending.proofs.Proceeding.{ends_at_last, pauses_at, pause_goes_on, one_answer_more}
-use Rattle.cdi_ending.proofs.Shrinking.{Shrinks-trans}
 use Rattle.cdi_ending.proofs.stage.Stage.+back.Goals as goal
 
 pub frame_back-returns-clause-legal : goal.frame_back-returns-clause-legal

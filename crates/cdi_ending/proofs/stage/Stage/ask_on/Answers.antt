@@ -1,8 +1,7 @@
 use Rattle.std.proofs.Common.{◌≡◌, ◌<◌, ◌+◌, ◌&&◌, length, Some, None, arith, true, refl}
 use Rattle.std.proofs.lemmas.Grind.{common_steps}
 use Rattle.cdi_legal.specs.{Acts.ending, Ends.Ends}
-use Rattle.cdi_ending.proofs.Proceeding.{twice_ends}
-use Rattle.cdi_ending.proofs.Shrinking.{Shrinks-trans}
+use Rattle.cdi_ending.proofs.{Proceeding.twice_ends, Shrinking.Shrinks-trans}
 use Rattle.cdi_ending.proofs.stage.Stage.ask_on.Goals.{then-len-eq8-via-then-len-eq8, then-len-eq8-via-else-len-eq8+then-is_second}
 use Rattle.cdi_ending.specs.Back.{is_proceeding}
 use Rattle.cdi_ending.proofs.stage.Stage.ask_on.Goals as goal

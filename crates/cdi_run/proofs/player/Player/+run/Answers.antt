@@ -4,9 +4,8 @@ use Rattle.cdi_model.specs.declared.outcome.{Outcome.TheVariants.Value, Val.Val}
 use Rattle.cdi_contexts.specs.declared.instance.Actor.TheVariants.{Target}
 use Rattle.cdi_scene.specs.declared.place.Place.TheVariants.{Construct, Post, Method, Producer, Observer as Observing}
 use Rattle.cdi_scene.specs.{Scene.product_at, Sound.IsSoundAt}
-use Rattle.cdi_legal.specs.Legal.{Legal, IsInactive, at, is_normal}
-use Rattle.cdi_legal.specs.{Acts.ending, Acts.Permits, Ends.Ends, Ends.seat_on, Ends.seat_of_class, Moment.Moment}
-use Rattle.cdi_legal.specs.Furnished.{HasDependents, IsDependent, IsServed}
+use Rattle.cdi_legal.specs.{Legal.Legal, Legal.IsInactive, Legal.at, Legal.is_normal, Acts.ending, Acts.Permits, Ends.Ends, Ends.seat_on}
+use Rattle.cdi_legal.specs.{Ends.seat_of_class, Moment.Moment, Furnished.HasDependents, Furnished.IsDependent, Furnished.IsServed}
 use Rattle.cdi_legal.proofs.{Growing.legal_grows, Settling.has-after}
 use Rattle.cdi_ending.proofs.Before.{some_of}
 use Rattle.cdi_run.proofs.Beans.{form_of, never, some_bean, begun_grows, with_outcome, with_both}

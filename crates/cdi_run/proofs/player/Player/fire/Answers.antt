@@ -1,8 +1,7 @@
 use Rattle.std.proofs.Common.{refl, ap}
 use Rattle.cdi_legal.specs.{LegalRun.Runs, Moment.Moment}
 use Rattle.cdi_legal.proofs.{Following.legal_follows, Housing.runs_rooted, Keeping.runs_keep, Sharing.legal_single}
-use Rattle.cdi_run.proofs.Ran.{run_budget, run_cause, run_faultless, run_ordered}
-use Rattle.cdi_run.proofs.Staying.{settled_after, settled_same}
+use Rattle.cdi_run.proofs.{Ran.run_budget, Ran.run_cause, Ran.run_faultless, Ran.run_ordered, Staying.settled_after, Staying.settled_same}
 use Rattle.cdi_run.specs.Known.{IsSettled}
 use Rattle.cdi_run.proofs.player.Player.fire.Goals as goal
 

@@ -1,8 +1,7 @@
 use Rattle.std.proofs.Common.{ap}
 use Rattle.cdi_legal.specs.Moment.{Moment}
 use Rattle.cdi_legal.proofs.{Following.runs_follow, Housing.runs_rooted, Keeping.runs_keep, Sharing.runs_single}
-use Rattle.cdi_run.proofs.Ran.{run_budget, run_cause, run_faultless, run_ordered}
-use Rattle.cdi_run.proofs.Staying.{runs_stay, settled_same}
+use Rattle.cdi_run.proofs.{Ran.run_budget, Ran.run_cause, Ran.run_faultless, Ran.run_ordered, Staying.runs_stay, Staying.settled_same}
 use Rattle.cdi_run.specs.Known.{IsSettled}
 use Rattle.cdi_run.proofs.player.Player.use_one.Goals as goal
 
