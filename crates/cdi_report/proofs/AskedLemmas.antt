@@ -1,11 +1,10 @@
 -- A declaration is listed under the words of what it asks for.
 use Rattle.cdi_report.proofs.Common.{◌≡◌, ℕ, true, List, [], ◌∷◌, ◌++◌, map, flat_map, refl, sym, ap, subst, ◌∙◌, AllByRecursion}
 use Rattle.cdi_report.proofs.Common.{option_to_list, or_left, or_right, list_any-append, key_at, mentions, Mention, UseOf, BeanDecl, Decl}
-use Rattle.cdi_report.proofs.Common.{Qual, own_records, PointDecl, Word, same_word, word_at, words_have, words_named, words_named_in}
-use Rattle.cdi_report.proofs.Common.{words_of_observer, words_of_record, words_of_uses, points_of, ◌||◌, key_of, BeanPlace, required}
-use Rattle.cdi_report.proofs.Common.{places_of, words_by, ChainKey, ChoiceKey, EventKey, Key, asked_by, chains_by, events_by, key_of_point}
-use Rattle.cdi_report.proofs.Common.{wanted_by, PointOf, StereotypeOf, TypeIn, BindingDecl, StereotypeDecl, TypeDecl, UseKind, TypePlace}
-use Rattle.cdi_report.proofs.Common.{words_of_point, among-named, point_named}
+use Rattle.cdi_report.proofs.Common.{Qual, PointDecl, Word, same_word, word_at, words_have, words_named_in, words_of_uses, points_of, ◌||◌}
+use Rattle.cdi_report.proofs.Common.{key_of, BeanPlace, required, places_of, words_by, ChainKey, ChoiceKey, EventKey, Key, asked_by}
+use Rattle.cdi_report.proofs.Common.{chains_by, events_by, key_of_point, wanted_by, PointOf, StereotypeOf, TypeIn, BindingDecl}
+use Rattle.cdi_report.proofs.Common.{StereotypeDecl, TypeDecl, UseKind, TypePlace, words_of_point, among-named, point_named, arith}
 use Rattle.std.proofs.Common.{append_assoc}
 use Rattle.cdi_model.specs.{Mentions.EventOf, declared.decl.QualifierDecl.QualifierDecl}
 use Rattle.cdi_model.specs.declared.decl.Decl.TheVariants as decls
@@ -148,11 +147,7 @@ chains-listed ds b (place ∷ places) = (refl, chains-listed ds b places)
 
 -- a bean has the words of what it names
 bean-named : (ds : List Decl) (b : BeanDecl) → HasNamed ds (decls.Bean b) (mentions (decls.Bean b))
-bean-named ds b w h =
-    let own : List Word = flat_map words_of_record (own_records ds b) in
-    let observed : List Word = flat_map words_of_observer b.observers in
-    list_any-append (λ v. same_word v w) (own ++ observed) (words_named (decls.Bean b))
-    ∙ or_right (words_have (own ++ observed) w) (words_have (words_named (decls.Bean b)) w) (among-named (decls.Bean b) w h)
+bean-named ds b w h = grind (arith, b.observers, list_any-append, among-named)
 
 -- a fact holds of each of none
 none-listed : {X : Type 0} (P : X → Type 0) (xs : List X) → xs ≡ [] → AllByRecursion P xs

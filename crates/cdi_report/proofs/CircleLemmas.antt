@@ -1,6 +1,6 @@
 -- Edits that avoid all to which a name leads leave whether it leads back to itself.
-use Rattle.cdi_report.proofs.Common.{◌≡◌, ℕ, Bool, true, List, [], None, refl, sym, ap, ◌∙◌, inl, inr, cases_Bool, key_at, is_among, Decl}
-use Rattle.cdi_report.proofs.Common.{DeclKey, length, has, suc, leads, Chain, Kind}
+use Rattle.cdi_report.proofs.Common.{◌≡◌, ℕ, Bool, true, List, [], None, refl, sym, ap, ◌∙◌, key_at, is_among, Decl, DeclKey, length, has}
+use Rattle.cdi_report.proofs.Common.{suc, leads, Chain, Kind, arith}
 use Rattle.std.specs.Bool.{Decides}
 use Rattle.std.proofs.lemmas.Bool.Decides.{same_from_decides, Decides-like}
 use Rattle.cdi_model.specs.Edits.{others}
@@ -19,10 +19,7 @@ module _ (kind : Kind) (lists : Lists) (none : lists None ≡ []) (keys : List D
   after = listed kind lists es
 
   agree : AgreeFrom before after x
-  agree u c = elim (cases_Bool (is_among keys (key_at kind u))) [
-    | inl among ↦ absurd (avoids u among c)
-    | inr apart ↦ ap lists (same_decl keys kind ds es same u apart)
-  ]
+  agree u c = grind (arith, same_decl)
 
   agree-behind : (w : List ℕ) → has (before x) w ≡ true → AgreeFrom before after w
   agree-behind w edge u c = agree u (suc c.0, (w, edge, c.1))

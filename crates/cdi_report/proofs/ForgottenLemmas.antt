@@ -1,8 +1,8 @@
 -- What is settled stays so where the keys go whose declarations are not there.
 use Rattle.cdi_report.proofs.Common.{all-weaker, ◌≡◌, Bool, true, false, cond, List, [], ◌∷◌, Option, Some, refl, sym, ap, subst, ◌∙◌, inl}
 use Rattle.cdi_report.proofs.Common.{inr, AllByRecursion, cases_Bool, false≢true, kind_of, name_of_decl, same_key, same_key_equiv}
-use Rattle.cdi_report.proofs.Common.{find_decl, Decl, DeclKey, ◌||◌, key_of, Key, not, list_any, is_some, filter, contains, Promised, is_of}
-use Rattle.cdi_report.proofs.Common.{key_exact, closed_of, is_open, is_present, AreSettled, HaveNoneTogether, Unsettled}
+use Rattle.cdi_report.proofs.Common.{find_decl, Decl, DeclKey, ◌||◌, key_of, Key, list_any, is_some, filter, contains, Promised, is_of}
+use Rattle.cdi_report.proofs.Common.{key_exact, closed_of, is_open, is_present, AreSettled, HaveNoneTogether, Unsettled, arith}
 
 -- ---- the keys that are left
 
@@ -22,16 +22,7 @@ left p (l ∷ ks) k passes = by (p l) refl (left p ks k passes)
 -- each that is left passes
 passes-left : (p : DeclKey → Bool) (ks : List DeclKey) (k : DeclKey) → list_any (same_key k) (filter p ks) ≡ true → p k ≡ true
 passes-left p [] k has = absurd (false≢true has)
-passes-left p (l ∷ ks) k has = by (p l) refl has (passes-left p ks k)
-  where
-    by : (b : Bool) → p l ≡ b → list_any (same_key k) (cond b (l ∷ filter p ks) (filter p ks)) ≡ true
-        → (list_any (same_key k) (filter p ks) ≡ true → p k ≡ true) → p k ≡ true
-    by true e has rest = here (same_key k l) refl has
-      where
-        here : (b : Bool) → same_key k l ≡ b → (b || list_any (same_key k) (filter p ks)) ≡ true → p k ≡ true
-        here true same has = ap p (key_exact k l same) ∙ e
-        here false other has = rest has
-    by false e has rest = rest has
+passes-left p (l ∷ ks) k has = grind (arith, passes-left p ks k, key_exact)
 
 pub left-are-present : (ds : List Decl) (old new : List DeclKey) (k : DeclKey) → new ≡ filter (is_present ds) old
     → list_any (same_key k) new ≡ true → is_present ds k ≡ true
@@ -57,9 +48,7 @@ each-present (d ∷ ds) = (
 closed-same : (ds es : List Decl) (old new : Unsettled) → AllByRecursion (λ d. is_open old (key_of d) ≡ is_open new (key_of d)) es
     → closed_of old es ≡ closed_of new es
 closed-same ds [] old new same = refl
-closed-same ds (d ∷ es) old new same =
-    ap (λ b. cond (not b) (d ∷ closed_of old es) (closed_of old es)) same.0
-    ∙ ap (λ l. cond (not (is_open new (key_of d))) (d ∷ l) l) (closed-same ds es old new same.1)
+closed-same ds (d ∷ es) old new same = grind (arith, closed-same ds es old new same.1, same.0, same.1)
 
 pub settled-forgotten : (ds : List Decl) (old new : Unsettled) → new.is_each ≡ old.is_each → new.anew ≡ old.anew
     → new.keys.keys ≡ filter (is_present ds) old.keys.keys → (knows : Key → Bool) (book : List Promised) → AreSettled ds knows book old

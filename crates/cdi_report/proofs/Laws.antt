@@ -1,9 +1,7 @@
 -- The laws.
 use Rattle.cdi_report.proofs.Common.{edited_all}
 use Rattle.cdi_subjects.proofs.RestLemmas.{faults_rest_on}
-use Rattle.cdi_report.proofs.ApartLemmas.{apart-spared}
-use Rattle.cdi_report.proofs.SparedLemmas.{seen-alike}
-use Rattle.cdi_report.proofs.UnconcernedLemmas.{unconcerned-apart}
+use Rattle.cdi_report.proofs.{ApartLemmas.apart-spared, SparedLemmas.seen-alike, UnconcernedLemmas.unconcerned-apart}
 use Rattle.cdi_report.specs.{Apart.ApartAreSpared, Spared.SparedKeepFaults, Unconcerned.UnconcernedAreApart}
 
 pub spared_keep_faults : SparedKeepFaults

@@ -1,9 +1,8 @@
 -- A bean that is chosen for a type is of a declaration that offers it.
-use Rattle.cdi_report.proofs.Common.{◌≡◌, ℕ, Bool, true, false, cond, List, [], ◌∷◌, map, refl, sym, ap, ◌∙◌, inl, inr, one_text}
-use Rattle.cdi_report.proofs.Common.{AllByRecursion, false≢true, or_left, or_right, BeanDecl, Decl, Qual, entries, as_bean, Effective}
-use Rattle.cdi_report.proofs.Common.{BeanId, One, ◌||◌, required, ◌&&◌, list_any, bytes_eq, records, filter, has, same_text, AreDistinct}
-use Rattle.cdi_report.proofs.Common.{or_cases, effective, product, ProducerDecl, records_declared, records_in, and_from, and_parts, beans}
-use Rattle.cdi_report.proofs.Common.{chosen}
+use Rattle.cdi_report.proofs.Common.{◌≡◌, ℕ, Bool, true, false, List, [], ◌∷◌, map, refl, sym, ap, ◌∙◌, inl, inr, one_text, AllByRecursion}
+use Rattle.cdi_report.proofs.Common.{false≢true, or_left, or_right, BeanDecl, Decl, Qual, entries, as_bean, Effective, BeanId, One}
+use Rattle.cdi_report.proofs.Common.{required, ◌&&◌, list_any, bytes_eq, records, filter, has, same_text, AreDistinct, or_cases, effective}
+use Rattle.cdi_report.proofs.Common.{product, ProducerDecl, records_declared, records_in, and_from, and_parts, beans, chosen, arith}
 use Rattle.base_lists.proofs.Any.{any-map, any-flat_map, any-more}
 use Rattle.cdi_model.specs.declared.decl.Decl.TheVariants as decls
 use Rattle.cdi_effective.specs.Qualifiers.{cover_all}
@@ -20,16 +19,7 @@ offers_type ds class t = list_any (λ b. has b.types t) (records_in ds class)
 
 any-filter : {A : Type 0} (q p : A → Bool) (xs : List A) → list_any q (filter p xs) ≡ true → list_any (λ x. p x && q x) xs ≡ true
 any-filter q p [] some = some
-any-filter q p (x ∷ xs) some = by (p x) some (any-filter q p xs)
-  where
-    by : (b : Bool) → list_any q (cond b (x ∷ filter p xs) (filter p xs)) ≡ true
-        → (list_any q (filter p xs) ≡ true → list_any (λ y. p y && q y) xs ≡ true)
-        → ((b && q x) || list_any (λ y. p y && q y) xs) ≡ true
-    by true some more = elim (or_cases (q x) (list_any q (filter p xs)) some) [
-      | inl here ↦ or_left (q x) (list_any (λ y. p y && q y) xs) here
-      | inr later ↦ or_right (q x) (list_any (λ y. p y && q y) xs) (more later)
-    ]
-    by false some more = more some
+any-filter q p (x ∷ xs) some = grind (arith, any-filter q p xs)
 
 -- ---- the one that is chosen
 

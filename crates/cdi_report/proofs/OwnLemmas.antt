@@ -1,11 +1,10 @@
 -- What holds of each binding that a bean writes holds of those at each of its places.
-use Rattle.cdi_report.proofs.Common.{◌≡◌, Bool, true, false, cond, List, [], ◌∷◌, ◌++◌, flat_map, Option, Some, None, IfSome, option_map}
+use Rattle.cdi_report.proofs.Common.{◌≡◌, Bool, false, List, [], ◌∷◌, ◌++◌, flat_map, Option, Some, None, IfSome, option_map}
 use Rattle.cdi_report.proofs.Common.{AllByRecursion, key_at, is_among, mentions, Mention, name_of_use, BeanDecl, DeclKey, Qual}
-use Rattle.cdi_report.proofs.Common.{IsBindingSpared, BeanPlace, TypeIn, not, ◌&&◌, find, bytes_eq, ProducerDecl, own_at}
+use Rattle.cdi_report.proofs.Common.{IsBindingSpared, BeanPlace, TypeIn, not, ◌&&◌, find, bytes_eq, ProducerDecl, own_at, arith}
 use Rattle.base_lists.proofs.Each.{all-front, all-back}
 use Rattle.cdi_model.specs.Mentions.{of_attributes, of_bindings, of_disposer, of_method, of_observer, of_part, of_parts, of_point}
-use Rattle.cdi_model.specs.Mentions.{of_producer, of_qualifiers, part_place_of}
-use Rattle.cdi_model.specs.declared.decl.{MethodDecl.MethodDecl, ObserverDecl.ObserverDecl}
+use Rattle.cdi_model.specs.{Mentions.of_producer, declared.decl.MethodDecl.MethodDecl, declared.decl.ObserverDecl.ObserverDecl}
 use Rattle.cdi_model.specs.declared.decl.Decl.TheVariants as decls
 use Rattle.cdi_model.specs.declared.decl.Kind.TheVariants as kinds
 use Rattle.cdi_model.specs.declared.mention.PointPlace.TheVariants as points
@@ -17,11 +16,7 @@ use Rattle.cdi_model.specs.declared.place.PartPlace.TheVariants as parts
 all-found : {A B : Type 0} (P : B → Type 0) (f : A → List B) (test : A → Bool) (xs : List A) → AllByRecursion P (flat_map f xs)
     → IfSome (find test xs) (λ x. AllByRecursion P (f x))
 all-found P f test [] all = tt
-all-found P f test (x ∷ xs) all = by (test x) (all-found P f test xs (all-back P (f x) (flat_map f xs) all))
-  where
-    by : (b : Bool) → IfSome (find test xs) (λ y. AllByRecursion P (f y)) → IfSome (cond b (Some x) (find test xs)) (λ y. AllByRecursion P (f y))
-    by true rest = all-front P (f x) (flat_map f xs) all
-    by false rest = rest
+all-found P f test (x ∷ xs) all = grind (arith, all-found P f test xs (all-back P (f x) (flat_map f xs) all), all-back, all-front)
 
 module _ (told : List DeclKey) where
   -- no binding type of some uses is affected
@@ -40,20 +35,10 @@ module _ (told : List DeclKey) where
       (all-front Spared (of_bindings m.bindings) (of_part (parts.Method m.name) [] m.part) all.1)
 
   of-producer : (p : ProducerDecl) → AllByRecursion Spared (of_producer p) → AreSpared p.bindings
-  of-producer p all =
-      let params = flat_map (of_point (points.Producer p.name)) p.params in
-      let part = of_part (part_place_of p) p.params p.part in
-      let start = TypeIn types.Produced p.product_type ∷ of_attributes p.attributes in
-      spared-uses p.bindings (all-back Spared start (of_bindings p.bindings)
-      (all-front Spared (start ++ of_bindings p.bindings) params (all-front Spared (start ++ of_bindings p.bindings ++ params) part all)))
+  of-producer p all = grind (arith, p.name, p.params, p.part, p.product_type, p.attributes, p.bindings, spared-uses, all-back, all-front)
 
   of-observer : (o : ObserverDecl) → AllByRecursion Spared (of_observer o) → AreSpared o.bindings
-  of-observer o all =
-      let params = flat_map (of_point (points.Observer o.name)) o.params in
-      let part = of_part (parts.Observer o.name) o.params o.part in
-      let start = TypeIn types.Observed o.event_type ∷ of_qualifiers o.qualifiers in
-      spared-uses o.bindings (all-back Spared start (of_bindings o.bindings)
-      (all-front Spared (start ++ of_bindings o.bindings) params (all-front Spared (start ++ of_bindings o.bindings ++ params) part all)))
+  of-observer o all = grind (arith, o.name, o.params, o.part, o.event_type, o.qualifiers, o.bindings, spared-uses, all-back, all-front)
 
   found-spared : {A : Type 0} (bindings : A → List Qual) (leads : A → List Mention)
       → ((x : A) → AllByRecursion Spared (leads x) → AreSpared (bindings x)) → (o : Option A)

@@ -1,10 +1,10 @@
 -- Edits that avoid the bindings of a bean and of its places leave whether two of them differ.
 use Rattle.cdi_report.proofs.Common.{all-append, all-filter, ◌≡◌, List, Option, Some, None, IfSome, refl, sym, ap, ◌∙◌, AllByRecursion}
 use Rattle.cdi_report.proofs.Common.{edited_all, BeanDecl, Decl, Edit, Qual, class_reads, BeanPlace, not, class_bindings, filter, Avoid}
-use Rattle.cdi_report.proofs.Common.{with_brought, binding_reads, has_conflict, own_at, avoid-first, avoid-second, set_by}
+use Rattle.cdi_report.proofs.Common.{with_brought, binding_reads, has_conflict, own_at, avoid-first, avoid-second, set_by, arith}
 use Rattle.cdi_model.specs.declared.place.BeanPlace.TheVariants as places
 use Rattle.cdi_match.specs.Stereotypes.{stereotype_decls}
-use Rattle.cdi_effective.specs.{Bindings.in_place_of, Bindings.stereotype_bindings, Qualifiers.uses_one}
+use Rattle.cdi_effective.specs.{Bindings.stereotype_bindings, Qualifiers.uses_one}
 use Rattle.cdi_intercept.specs.Sets.{around_method, of_method, of_observer, of_producer}
 use Rattle.cdi_report.proofs.BindingLemmas.{brought-alike, brought-stay, conflict-alike, IsDeclaredAlike}
 
@@ -40,9 +40,7 @@ module _ (edits : List Edit) (ds : List Decl) (d : BeanDecl) (avoid : Avoid (cla
   around-stay : (o : Option (List Qual)) → IfSome o (λ uses. Avoid (binding_reads ds uses) edits)
       → around_method ds (class_bindings ds d) o ≡ around_method es (class_bindings es d) o
   around-stay None spared = refl
-  around-stay (Some uses) spared =
-      ap (λ c. in_place_of c (with_brought ds uses)) (sym class)
-      ∙ ap (in_place_of (class_bindings es d)) (sym (brought-stay edits ds uses spared))
+  around-stay (Some uses) spared = grind (arith, brought-stay)
 
   set-alike : (place : BeanPlace) → Alike (set_by ds (class_bindings ds d) d place)
   set-alike (places.Method name) = around-alike (of_method d name) (own (places.Method name))

@@ -1,8 +1,8 @@
 -- Where the declarations of some keys are.
-use Rattle.cdi_report.proofs.Common.{◌≡◌, ℕ, Bool, true, false, cond, List, [], ◌∷◌, flat_map, Option, Some, None, refl, sym, ap, ◌∙◌, inl}
-use Rattle.cdi_report.proofs.Common.{inr, cases_Bool, false≢true, same_key, same_key_equiv, Decl, DeclKey, ◌||◌, key_of, list_any, nat_eq}
-use Rattle.cdi_report.proofs.Common.{filter, arith, contains, is_of, key_exact, is_open, Unsettled, AreDistinct, open_of, option_map_or}
-use Rattle.cdi_report.proofs.Common.{is_marked, marked_from, decls_at, is_at}
+use Rattle.cdi_report.proofs.Common.{◌≡◌, ℕ, Bool, true, false, cond, List, [], ◌∷◌, flat_map, Option, Some, None, refl, sym, ap, ◌∙◌}
+use Rattle.cdi_report.proofs.Common.{false≢true, same_key, same_key_equiv, Decl, DeclKey, ◌||◌, key_of, list_any, filter, arith, contains}
+use Rattle.cdi_report.proofs.Common.{is_of, key_exact, is_open, Unsettled, AreDistinct, open_of, option_map_or, is_marked, marked_from}
+use Rattle.cdi_report.proofs.Common.{decls_at, is_at}
 use Rattle.std.proofs.{Common.position, Common.slice_get, Common.get_or, lemmas.Bool.eq-eqb, lemmas.Bool.eqb-true}
 use Rattle.std.proofs.lemmas.{List.Quantifiers.position-Some, Option.slice_get-get_or}
 use Rattle.cdi_effective.proofs.PlaceLemmas.{own-position}
@@ -27,26 +27,7 @@ is-there ds k d p distinct at same =
 
 at-key : (ds : List Decl) → AreDistinct ds → (k : DeclKey) (p : ℕ)
     → is_at ds k p ≡ option_map_or (λ d. same_key (key_of d) k) (slice_get ds p) false
-at-key ds distinct k p = by (position (is_of k.kind k.name) ds) refl (option_map_or (λ d. same_key (key_of d) k) (slice_get ds p) false) refl
-  where
-    there : (o : Option Decl) → slice_get ds p ≡ o → option_map_or (λ d. same_key (key_of d) k) o false ≡ true
-        → position (is_of k.kind k.name) ds ≡ Some p
-    there None at has = absurd (false≢true has)
-    there (Some d) at has = is-there ds k d p distinct at has
-
-    by : (o : Option ℕ) → position (is_of k.kind k.name) ds ≡ o → (b : Bool)
-        → option_map_or (λ d. same_key (key_of d) k) (slice_get ds p) false ≡ b → option_map_or (λ i. nat_eq i p) o false ≡ b
-    by None none false e = refl
-    by None none true e = absurd (let no : None ≡ Some p = sym none ∙ there (slice_get ds p) refl e in cc)
-    by (Some i) at true e =
-        let same : Some i ≡ Some p = sym at ∙ there (slice_get ds p) refl e in
-        let one : i ≡ p = cc in
-        eq-eqb i p one
-    by (Some i) at false e = elim (cases_Bool (nat_eq i p)) [
-      | inl one ↦ absurd (false≢true (sym e
-          ∙ ap (λ j. option_map_or (λ d. same_key (key_of d) k) (slice_get ds j) false) (sym (eqb-true i p one)) ∙ has-key k ds i at))
-      | inr other ↦ other
-    ]
+at-key ds distinct k p = grind (arith, k.kind, k.name, false≢true, is-there, eq-eqb, eqb-true, has-key)
 
 -- ---- some keys
 

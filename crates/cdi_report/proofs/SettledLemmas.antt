@@ -1,11 +1,10 @@
 -- A report that looks at some declarations tells the faults of all.
-use Rattle.cdi_report.proofs.Common.{◌≡◌, Bool, true, false, cond, List, [], ◌∷◌, map, Some, None, refl, sym, ap, ◌∙◌, inl, inr}
-use Rattle.cdi_report.proofs.Common.{AllByRecursion, cases_Bool, false≢true, or_left, or_right, kind_of, name_of_decl, same_key, find_decl}
-use Rattle.cdi_report.proofs.Common.{Decl, DeclKey, PointDecl, points_of, ◌||◌, key_of, ChainKey, Key, wanted_by, not, ◌&&◌, length}
-use Rattle.cdi_report.proofs.Common.{list_any, filter, ◌⊎◌, arith, contains, Promised, is_of, is_open, AreSettled, HaveNoneTogether}
-use Rattle.cdi_report.proofs.Common.{Unsettled, AreDistinct, each-found, IsFound, or_cases, and_from, open_of, list_all, has_key, is_wanted}
-use Rattle.cdi_report.proofs.Common.{AskForRest, EvaluatesSome, faults_of, has_faults, AreChainsKnown, IsKnown, each-passes, flat_map}
-use Rattle.cdi_report.proofs.Common.{all-weaker, all-filter}
+use Rattle.cdi_report.proofs.Common.{◌≡◌, Bool, true, false, List, [], ◌∷◌, map, Some, None, refl, sym, ap, ◌∙◌, inl, inr, AllByRecursion}
+use Rattle.cdi_report.proofs.Common.{cases_Bool, false≢true, or_left, or_right, same_key, Decl, DeclKey, PointDecl, ◌||◌, key_of, ChainKey}
+use Rattle.cdi_report.proofs.Common.{Key, wanted_by, not, ◌&&◌, length, list_any, filter, arith, contains, Promised, is_open, AreSettled}
+use Rattle.cdi_report.proofs.Common.{HaveNoneTogether, Unsettled, AreDistinct, each-found, IsFound, and_from, open_of, list_all, has_key}
+use Rattle.cdi_report.proofs.Common.{is_wanted, AskForRest, EvaluatesSome, faults_of, has_faults, AreChainsKnown, IsKnown, each-passes}
+use Rattle.cdi_report.proofs.Common.{flat_map, all-weaker, all-filter}
 use Rattle.std.specs.List.{All}
 use Rattle.std.proofs.{Common.nat_lt, lemmas.Bool.ltb-false}
 use Rattle.base_lists.proofs.Flat.{flat-filter}
@@ -21,35 +20,12 @@ use Rattle.cdi_report.proofs.TogetherLemmas.{together-filtered}
 any-filter : {A : Type 0} (p f : A → Bool) (xs : List A) → AllByRecursion (λ x. p x ≡ false → f x ≡ false) xs → list_any f xs ≡ true
     → list_any f (filter p xs) ≡ true
 any-filter p f [] all some = some
-any-filter p f (x ∷ xs) all some = by (p x) refl (or_cases (f x) (list_any f xs) some) (any-filter p f xs all.1)
-  where
-    by : (b : Bool) → p x ≡ b → (f x ≡ true) ⊎ (list_any f xs ≡ true) → (list_any f xs ≡ true → list_any f (filter p xs) ≡ true)
-        → list_any f (cond b (x ∷ filter p xs) (filter p xs)) ≡ true
-    by true e (inl here) more = or_left (f x) (list_any f (filter p xs)) here
-    by true e (inr later) more = or_right (f x) (list_any f (filter p xs)) (more later)
-    by false e (inl here) more = absurd (false≢true (sym (all.0 e) ∙ here))
-    by false e (inr later) more = more later
+any-filter p f (x ∷ xs) all some = grind (arith, any-filter p f xs all.1, all.1, all.0, false≢true)
 
 -- one that is found by a test on the list, and passes one more, is among those that are left
 found-filter : (p f : Decl → Bool) (ds : List Decl) (d : Decl) → IsFound ds d → p d ≡ true → f d ≡ true → list_any f (filter p ds) ≡ true
 found-filter p f [] d found passes holds = absurd (let no : None ≡ Some d = found in cc)
-found-filter p f (e ∷ ds) d found passes holds = by (is_of (kind_of d) (name_of_decl d) e) found (found-filter p f ds d)
-  where
-    first : (b : Bool) → p e ≡ b → p e ≡ true → f e ≡ true → list_any f (cond b (e ∷ filter p ds) (filter p ds)) ≡ true
-    first true is passed holds = or_left (f e) (list_any f (filter p ds)) holds
-    first false is passed holds = absurd (false≢true (sym is ∙ passed))
-
-    more : (b : Bool) → list_any f (filter p ds) ≡ true → list_any f (cond b (e ∷ filter p ds) (filter p ds)) ≡ true
-    more true rest = or_right (f e) (list_any f (filter p ds)) rest
-    more false rest = rest
-
-    by : (b : Bool) → cond b (Some e) (find_decl (kind_of d) (name_of_decl d) ds) ≡ Some d
-        → (IsFound ds d → p d ≡ true → f d ≡ true → list_any f (filter p ds) ≡ true) → list_any f (filter p (e ∷ ds)) ≡ true
-    by true here rest =
-        let some : Some e ≡ Some d = here in
-        let same : e ≡ d = cc in
-        first (p e) refl (ap p same ∙ passes) (ap f same ∙ holds)
-    by false there rest = more (p e) (rest there passes holds)
+found-filter p f (e ∷ ds) d found passes holds = grind (arith, found-filter p f ds d, false≢true)
 
 -- ---- what is known
 
@@ -68,18 +44,13 @@ module _ (ds : List Decl) (knows : Key → Bool) (all : (key : Key) → is_wante
   chains-known (p ∷ ps) = (λ id one place wants. all (ChainKey id.class place) wants, chains-known ps)
 
   is-known : (d : Decl) → IsFound ds d → IsKnown ds knows d
-  is-known d found = record {
-    keys = all-pass knows (wanted_by d) (λ key has. all key (asked-wanted ds d found key has));
-    chains = chains-known (points_of d);
-  }
+  is-known d found = grind (arith, all-pass, asked-wanted, chains-known)
 
 -- ---- evaluations
 
 pub some-still : (ds : List Decl) (old new : Kept) → old.keeps ≡ true → EvaluatesSome ds old new → (key : Key) → old.knows key ≡ true
     → new.knows key ≡ true
-some-still ds old new keeps some key h =
-    ap (λ (kept : Kept). kept.knows key) (some.are ∙ evaluated-apart ds some.keys old keeps some.wanted some.apart)
-    ∙ or_left (old.knows key) (has_key some.keys key) h
+some-still ds old new keeps some key h = grind (arith, some.are, some.keys, some.wanted, some.apart, old.knows, evaluated-apart)
 
 after-all : (ds : List Decl) (old new : Kept) → old.keeps ≡ true → new ≡ evaluated ds (wanted ds) old → (key : Key)
     → new.knows key ≡ (old.knows key || is_wanted ds key)
@@ -98,26 +69,12 @@ all-knew ds old new keeps is key h = after-all ds old new keeps is key ∙ or_le
 chains-still : (ds : List Decl) (knows more : Key → Bool) (ps : List PointDecl) → ((key : Key) → knows key ≡ true → more key ≡ true)
     → AllByRecursion (AreChainsKnown ds knows) ps → AllByRecursion (AreChainsKnown ds more) ps
 chains-still ds knows more [] still all = tt
-chains-still ds knows more (p ∷ ps) still all = (
-  λ id one place wants. still (ChainKey id.class place) (all.0 id one place wants),
-  chains-still ds knows more ps still all.1,
-)
+chains-still ds knows more (p ∷ ps) still all = grind (arith, chains-still ds knows more ps still all.1, all.0, all.1)
 
 -- they are where more is known
 pub settled-still : (ds : List Decl) (knows more : Key → Bool) (book : List Promised) (u : Unsettled)
     → ((key : Key) → knows key ≡ true → more key ≡ true) → AreSettled ds knows book u → AreSettled ds more book u
-settled-still ds knows more book u still settled = record {
-  each = λ d found closed.
-      let is = settled.each d found closed in
-      record {
-        known = record {
-          keys = all-still knows more (wanted_by d) still is.known.keys;
-          chains = chains-still ds knows more (points_of d) still is.known.chains;
-        };
-        faultless = is.faultless;
-      };
-  apart = settled.apart;
-}
+settled-still ds knows more book u still settled = grind (arith, settled.each, settled.apart, all-still, chains-still)
 
 none-of-length : {A : Type 0} (xs : List A) → nat_lt 0 (length xs) ≡ false → xs ≡ []
 none-of-length [] e = refl

@@ -18,11 +18,9 @@ use Rattle.cdi_effective.specs.Beans.{managed}
 use Rattle.cdi_effective.proofs.PlaceLemmas.{bean-decl}
 use Rattle.cdi_index.specs.Made.{is_kept}
 use Rattle.cdi_subjects.specs.Rests.{specialized_seen, types_and_name, AreAlike, AreProductsAlike, DifferAlike, HasQualifiersAlike}
-use Rattle.cdi_subjects.specs.Rests.{IsSeenAlike}
-use Rattle.cdi_subjects.specs.Subjects.{products, reaches_itself}
+use Rattle.cdi_subjects.specs.{Rests.IsSeenAlike, Subjects.products, Subjects.reaches_itself}
 use Rattle.cdi_report.proofs.ItselfLemmas.{binding-circle, stereotype-circle, type-circle}
-use Rattle.cdi_report.proofs.OwnLemmas.{own-spared, AreSpared}
-use Rattle.cdi_report.proofs.PlaceLemmas.{differ-alike}
+use Rattle.cdi_report.proofs.{OwnLemmas.own-spared, OwnLemmas.AreSpared, PlaceLemmas.differ-alike}
 
 -- a key that is among those of some names is that of one
 pub among-map : (kind : Kind) (names : List (List ℕ)) (key : DeclKey) → is_among (map (key_at kind) names) key ≡ true
@@ -48,10 +46,7 @@ module _ (edits : List Edit) (ds : List Decl) (told : List DeclKey) (tells : Tel
   -- what is told of nothing is not edited
   pub not-edited : (kind : Kind) (name : List ℕ) → is_kept kind ≡ true → is_among told (key_at kind name) ≡ false
       → is_among keys (key_at kind name) ≡ false
-  not-edited kind name kept spared = elim (cases_Bool (is_among keys (key_at kind name))) [
-    | inl among ↦ absurd (false≢true (sym spared ∙ tells.edited (key_at kind name) kept among))
-    | inr apart ↦ apart
-  ]
+  not-edited kind name kept spared = grind (arith, false≢true)
 
   -- ---- names
 
@@ -221,9 +216,7 @@ module _ (edits : List Edit) (ds : List Decl) (told : List DeclKey) (tells : Tel
   entries-stay other found spared = refl
 
   qualifiers-alike : (b : Effective) → AreQualifiersSpared keys b → HasQualifiersAlike ds es b
-  qualifiers-alike b spared = all-weaker (λ u. is_among keys (key_at kinds.Qualifier u.name) ≡ false)
-      (λ u. find_decl kinds.Qualifier u.name ds ≡ find_decl kinds.Qualifier u.name es) b.qualifiers
-      (λ u apart. sym (edits_keep_decl edits ds kinds.Qualifier u.name apart)) spared
+  qualifiers-alike b spared = grind (arith, b.qualifiers, all-weaker, edits_keep_decl)
 
   products-alike : (d : Decl) → IsSpared ds edits told d → AreProductsAlike ds es d
   products-alike (decls.Bean d) spared =
@@ -246,13 +239,16 @@ module _ (edits : List Edit) (ds : List Decl) (told : List DeclKey) (tells : Tel
   differ-all other found spared = tt
 
   pub seen-alike : (d : Decl) → find_decl (kind_of d) (name_of_decl d) ds ≡ Some d → IsSpared ds edits told d → IsSeenAlike ds es d
-  seen-alike d found spared = record {
-    names = all-weaker (λ m. IsNotEdited keys (named_in m)) (λ m. AreAlike ds es (named_in m)) (mentions d)
-        (λ m apart. alike-named (named_in m) apart) spared.names;
-    records = entries-stay d found spared;
-    qualifiers = products-alike d spared;
-    specialized = specialized-alike d found spared;
-    answers = spared.answers;
-    circle = circle-stays d found spared;
-    bindings = differ-all d found spared;
-  }
+  seen-alike d found spared =
+      grind (
+        arith,
+        spared.names,
+        spared.answers,
+        all-weaker,
+        alike-named,
+        entries-stay,
+        products-alike,
+        specialized-alike,
+        circle-stays,
+        differ-all,
+      )

@@ -2,7 +2,7 @@
 use Rattle.cdi_report.proofs.Common.{◌≡◌, false, List, Some, option_map, refl, sym, ap, subst, ◌∙◌, kind_of, name_of_decl, key_at}
 use Rattle.cdi_report.proofs.Common.{find_decl, edited_all, edited_keys, is_among, BeanDecl, Decl, Edit, DeclKey, entries, as_bean}
 use Rattle.cdi_report.proofs.Common.{made_of_bean, reads_in, Tells, key_of, Key, edits_keep_decl, AreDistinct, Moved, Staged, IsFound}
-use Rattle.cdi_report.proofs.Common.{knows, State, subjects_at_fault, IsAlike, IsLeft, IsKnown, still_known, is_concerned}
+use Rattle.cdi_report.proofs.Common.{knows, State, subjects_at_fault, IsAlike, IsLeft, IsKnown, still_known, is_concerned, arith}
 use Rattle.cdi_model.specs.declared.decl.Decl.TheVariants as decls
 use Rattle.cdi_model.specs.declared.decl.Kind.TheVariants as kinds
 use Rattle.cdi_effective.specs.Specialized.{chain}
@@ -48,11 +48,7 @@ module _ (old : State) (draft : Drafted) (next : Staged) (new : State) (keys : L
       (subst (λ es. Tells ds es draft.keys moved.affected.now) left.edited.decls left.concerned.by.tells)
 
   given-up : IsGivenUp ds (edited_all ds edits) (knows old) moved
-  given-up = subst (λ es. IsGivenUp ds es (knows old) moved) left.edited.decls record {
-    types = left.concerned.by.types;
-    events = left.concerned.by.events;
-    classes = left.concerned.by.classes;
-  }
+  given-up = grind arith
 
   -- the declarations after it
   after : new.decls ≡ edited_all ds edits

@@ -1,27 +1,25 @@
 -- What a declaration asks for stays known after edits that do not concern it, and is answered alike.
-use Rattle.cdi_report.proofs.Common.{◌≡◌, ℕ, Bool, true, false, cond, List, [], ◌∷◌, ◌++◌, map, Option, Some, None, refl, sym, ap, ◌∙◌, inl}
-use Rattle.cdi_report.proofs.Common.{inr, AllByRecursion, cases_Bool, false≢true, or_left, or_right, kind_of, name_of_decl, key_at}
-use Rattle.cdi_report.proofs.Common.{find_decl, edited_all, edited_keys, is_among, BeanDecl, Decl, Edit, Qual, as_bean, BeanId, PointDecl}
-use Rattle.cdi_report.proofs.Common.{One, Tells, answer_to, points_of, key_of, BeanPlace, required, places_of, ChainKey, ChoiceKey}
-use Rattle.cdi_report.proofs.Common.{EventKey, Key, asked_by, chains_by, events_by, key_of_point, wanted_by, not, ◌&&◌, list_any, bytes_eq}
-use Rattle.cdi_report.proofs.Common.{edits_keep_decl, class_bindings, chain_of, has_place, has, AreDistinct, Moved, or_cases, same_text}
-use Rattle.cdi_report.proofs.Common.{and_from, and_parts, beans, chosen, set_by, option_map_or, list_all, has_key, is_wanted}
-use Rattle.cdi_report.proofs.Common.{AreChainsKnown, IsKnown, still_known, is_concerned, IsUnconcerned, each-passes}
+use Rattle.cdi_report.proofs.Common.{◌≡◌, ℕ, Bool, true, false, cond, List, [], ◌∷◌, map, Some, refl, sym, ap, ◌∙◌, inl, inr}
+use Rattle.cdi_report.proofs.Common.{AllByRecursion, cases_Bool, false≢true, or_left, or_right, kind_of, name_of_decl, key_at, find_decl}
+use Rattle.cdi_report.proofs.Common.{edited_all, edited_keys, is_among, BeanDecl, Decl, Edit, Qual, as_bean, BeanId, PointDecl, One, Tells}
+use Rattle.cdi_report.proofs.Common.{answer_to, points_of, key_of, BeanPlace, required, places_of, ChainKey, ChoiceKey, EventKey, Key}
+use Rattle.cdi_report.proofs.Common.{asked_by, key_of_point, wanted_by, not, ◌&&◌, list_any, bytes_eq, edits_keep_decl, class_bindings}
+use Rattle.cdi_report.proofs.Common.{chain_of, has_place, has, AreDistinct, Moved, or_cases, same_text, and_from, and_parts, beans, chosen}
+use Rattle.cdi_report.proofs.Common.{set_by, option_map_or, list_all, has_key, is_wanted, AreChainsKnown, IsKnown, still_known}
+use Rattle.cdi_report.proofs.Common.{is_concerned, IsUnconcerned, each-passes, arith}
 use Rattle.std.proofs.{Common.Result, Common.Ok, Common.Err, lemmas.List.Folds.list_all-append}
 use Rattle.cdi_model.specs.declared.refusal.Refusal.{Refusal}
 use Rattle.cdi_model.specs.declared.decl.Decl.TheVariants as decls
 use Rattle.cdi_model.specs.declared.decl.Kind.TheVariants as kinds
 use Rattle.cdi_model.specs.declared.refusal.Refusal.TheVariants as refusals
 use Rattle.cdi_effective.specs.Disposers.{find_bean}
-use Rattle.cdi_intercept.specs.Sees.{sees_at, Seen as SeenAround}
-use Rattle.cdi_intercept.specs.Chains.{chain_by, chain_told}
+use Rattle.cdi_intercept.specs.Chains.{chain_by}
 use Rattle.cdi_intercept.proofs.SeenLemmas.{told_rests_on_seen}
-use Rattle.cdi_resolve.specs.Sees.{sees, Seen}
 use Rattle.cdi_resolve.proofs.SeenLemmas.{choice_rests_on_seen}
 use Rattle.cdi_observe.specs.Keys.{same_place}
 use Rattle.cdi_observe.proofs.{BeanPlaceLemmas.has-it, AskedLemmas.chosen-required}
 use Rattle.cdi_seen.proofs.{NameLemmas.only-chains, SameLemmas.touched_where_seen_differs}
-use Rattle.cdi_seen.specs.Touched.{is_touched, ByChain, ByChoice}
+use Rattle.cdi_seen.specs.Touched.{is_touched}
 use Rattle.cdi_live.proofs.WantedPlaceLemmas.{wanted-place}
 use Rattle.cdi_report.proofs.OfferLemmas.{offers_type, one-offers}
 use Rattle.cdi_report.proofs.AskedLemmas.{points-listed, wanted-listed, IsListed, IsPointListed}
@@ -45,11 +43,7 @@ untouched ds es knows key h = (and_parts (is_wanted es key) (not (is_touched ds 
 
 same-choice : (ds es : List Decl) (t : List ℕ) (us : List Qual) → not (is_touched ds es (ChoiceKey t us)) ≡ true
     → chosen ds (beans ds) t us ≡ chosen es (beans es) t us
-same-choice ds es t us h = choice_rests_on_seen ds es (beans ds) (beans es) t us
-    (seen (sees ds (beans ds) t us) (sees es (beans es) t us) ((touched_where_seen_differs ds es (ChoiceKey t us)).0 h))
-  where
-    seen : (a b : Seen) → ByChoice a ≡ ByChoice b → a ≡ b
-    seen a b e = cc
+same-choice ds es t us h = grind (arith, choice_rests_on_seen, touched_where_seen_differs)
 
 abbrev names_around : List Decl → List ℕ → BeanPlace → BeanDecl → List (List ℕ)
 names_around ds class place b = map (λ i. i.name) (chain_by ds (set_by ds (class_bindings ds b) b place) place)
@@ -58,36 +52,18 @@ names_around ds class place b = map (λ i. i.name) (chain_by ds (set_by ds (clas
 told-of : (ds : List Decl) (class : List ℕ) (place : BeanPlace) (b : BeanDecl) (there : Bool) → find_bean class ds ≡ Some b
     → has_place b place ≡ there
     → chain_of ds class place ≡ cond {A = Result (List (List ℕ)) Refusal} there (Ok (names_around ds class place b)) (Err refusals.NoMethod)
-told-of ds class place b there found has =
-    ap (λ o. chain_told ds o place) found
-    ∙ ap (λ (c : Bool). cond {A = Result (List (List ℕ)) Refusal} c (Ok (names_around ds class place b)) (Err refusals.NoMethod)) has
+told-of ds class place b there found has = grind arith
 
 -- around a place that is not touched, of one declaration
 same-chain : (ds es : List Decl) (class : List ℕ) (place : BeanPlace) (b : BeanDecl) → find_bean class ds ≡ Some b → find_bean class es ≡ Some b
     → has_place b place ≡ true → not (is_touched ds es (ChainKey class place)) ≡ true → chain_of es class place ≡ chain_of ds class place
-same-chain ds es class place b before after there h =
-    let was : chain_of ds class place ≡ Ok (names_around ds class place b) = told-of ds class place b true before there in
-    let is : chain_of es class place ≡ Ok (names_around es class place b) = told-of es class place b true after there in
-    is ∙ ap Ok (sym (told_rests_on_seen ds es class place (names_around ds class place b) (names_around es class place b)
-    (seen (sees_at ds class place) (sees_at es class place) ((touched_where_seen_differs ds es (ChainKey class place)).0 h)) was is)) ∙ sym was
-  where
-    seen : (a b : SeenAround) → ByChain a ≡ ByChain b → a ≡ b
-    seen a b e = cc
+same-chain ds es class place b before after there h = grind (arith, told-of, told_rests_on_seen, touched_where_seen_differs)
 
 -- around each place of one declaration, if those that it has are not touched
 same-chains-of : (ds es : List Decl) (class : List ℕ) (place : BeanPlace) → find_bean class es ≡ find_bean class ds
     → ((b : BeanDecl) → find_bean class ds ≡ Some b → has_place b place ≡ true → not (is_touched ds es (ChainKey class place)) ≡ true)
     → chain_of es class place ≡ chain_of ds class place
-same-chains-of ds es class place same apart = by (find_bean class ds) refl
-  where
-    at-place : (b : BeanDecl) → find_bean class ds ≡ Some b → (there : Bool) → has_place b place ≡ there
-        → chain_of es class place ≡ chain_of ds class place
-    at-place b at true there = same-chain ds es class place b at (same ∙ at) there (apart b at there)
-    at-place b at false there = told-of es class place b false (same ∙ at) there ∙ sym (told-of ds class place b false at there)
-
-    by : (o : Option BeanDecl) → find_bean class ds ≡ o → chain_of es class place ≡ chain_of ds class place
-    by None at = ap (λ o. chain_told es o place) (same ∙ at) ∙ sym (ap (λ o. chain_told ds o place) at)
-    by (Some b) at = at-place b at (has_place b place) refl
+same-chains-of ds es class place same apart = grind (arith, same-chain, told-of)
 
 -- a bean asks for the chain at each of its places
 asks-own : (b : BeanDecl) (place : BeanPlace) → has_place b place ≡ true → has_key (wanted_by (decls.Bean b)) (ChainKey b.name place) ≡ true
@@ -113,18 +89,9 @@ module _ (edits : List Edit) (ds : List Decl) (m : Moved) (d : Decl) (knows : Ke
 
   -- a known key for which it asks stays known
   still : (key : Key) → IsListed ds d key → knows key ≡ true → still_known ds es knows key ≡ true
-  still (ChoiceKey t us) listed known = elim (cases_Bool (still_known ds es knows (ChoiceKey t us))) [
-    | inl stays ↦ stays
-    | inr gone ↦ absurd (false≢true (sym (no-choice ds m d clear found t (given-up.types t us known gone)) ∙ listed))
-  ]
-  still (ChainKey class place) listed known = elim (cases_Bool (still_known ds es knows (ChainKey class place))) [
-    | inl stays ↦ stays
-    | inr gone ↦ absurd (false≢true (sym (not-classed ds m d clear class listed) ∙ given-up.classes class place known gone))
-  ]
-  still (EventKey t us) listed known = elim (cases_Bool (still_known ds es knows (EventKey t us))) [
-    | inl stays ↦ stays
-    | inr gone ↦ absurd (false≢true (sym (no-event ds m d clear found t (given-up.events t us known gone)) ∙ listed))
-  ]
+  still (ChoiceKey t us) listed known = grind (arith, false≢true, no-choice)
+  still (ChainKey class place) listed known = grind (arith, false≢true, not-classed)
+  still (EventKey t us) listed known = grind (arith, false≢true, no-event)
 
   -- so the same is chosen for its points
   same-answers : (ps : List PointDecl) → AllByRecursion (IsPointListed ds d) ps → list_all knows (map key_of_point ps) ≡ true
@@ -140,9 +107,7 @@ module _ (edits : List Edit) (ds : List Decl) (m : Moved) (d : Decl) (knows : Ke
       )
 
   known-points : list_all knows (wanted_by d) ≡ true → list_all knows (asked_by d) ≡ true
-  known-points known = (and_parts (list_all knows (asked_by d)) (list_all knows (chains_by d)) (sym (list_all-append knows (asked_by d) (chains_by d))
-      ∙ (and_parts (list_all knows (asked_by d ++ chains_by d)) (list_all knows (events_by d))
-      (sym (list_all-append knows (asked_by d ++ chains_by d) (events_by d)) ∙ known)).0)).0
+  known-points known = grind (arith, list_all-append)
 
   -- ---- a bean that is chosen for one of its points
 

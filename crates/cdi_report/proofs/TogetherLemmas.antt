@@ -1,8 +1,8 @@
 -- Declarations that have no faults together.
 use Rattle.cdi_report.proofs.Common.{not-true, ◌≡◌, Bool, true, false, cond, List, [], ◌∷◌, ◌++◌, refl, sym, ap, subst, ◌∙◌, inl, inr}
 use Rattle.cdi_report.proofs.Common.{AllByRecursion, cases_Bool, false≢true, Decl, DeclKey, key_of, not, filter, closed_of, is_open}
-use Rattle.cdi_report.proofs.Common.{HaveNoneTogether, Unsettled, AreDistinct, IsAlike, AreNamed, and_parts, beans, open_of, list_all}
-use Rattle.cdi_report.proofs.Common.{is_chainless, is_nameless, is_needless, faults_together, looks_at_all, Together}
+use Rattle.cdi_report.proofs.Common.{HaveNoneTogether, Unsettled, AreDistinct, IsAlike, AreNamed, beans, open_of, list_all, is_chainless}
+use Rattle.cdi_report.proofs.Common.{is_nameless, is_needless, faults_together, looks_at_all, Together, arith}
 use Rattle.std.proofs.lemmas.Bool.{not_from_false}
 use Rattle.cdi_validate.proofs.ChainlessLemmas.{no_twice_faults, twice_filtered, twice_stays, twice_whole}
 use Rattle.cdi_validate.proofs.NamelessLemmas.{clash_filtered, clash_stays, clash_whole, no_name_faults}
@@ -17,24 +17,13 @@ use Rattle.cdi_report.specs.Settled.{IsSettledAnyway, LooksAtMore, MoreIsSettled
 -- what a second test leaves it leaves of what a first one does, where none of it fails that
 pub filter-filter : {A : Type 0} (p q : A → Bool) (xs : List A) → ((x : A) → q x ≡ true → p x ≡ true) → filter q (filter p xs) ≡ filter q xs
 filter-filter p q [] less = refl
-filter-filter p q (x ∷ xs) less = by (p x) (q x) refl refl (filter-filter p q xs less)
-  where
-    by : (a b : Bool) → p x ≡ a → q x ≡ b → filter q (filter p xs) ≡ filter q xs
-        → filter q (cond a (x ∷ filter p xs) (filter p xs)) ≡ cond b (x ∷ filter q xs) (filter q xs)
-    by true true e f rest = ap (λ c. cond c (x ∷ filter q (filter p xs)) (filter q (filter p xs))) f ∙ ap (λ l. x ∷ l) rest
-    by true false e f rest = ap (λ c. cond c (x ∷ filter q (filter p xs)) (filter q (filter p xs))) f ∙ rest
-    by false true e f rest = absurd (false≢true (sym e ∙ less x f))
-    by false false e f rest = rest
+filter-filter p q (x ∷ xs) less = grind (arith, filter-filter p q xs less, false≢true)
 
 -- what holds of each that passes holds of those that are left
 pub all-passed : {A : Type 0} (P : A → Type 0) (p : A → Bool) (xs : List A) → AllByRecursion (λ x. p x ≡ true → P x) xs
     → AllByRecursion P (filter p xs)
 all-passed P p [] all = tt
-all-passed P p (x ∷ xs) all = by (p x) refl (all-passed P p xs all.1)
-  where
-    by : (b : Bool) → p x ≡ b → AllByRecursion P (filter p xs) → AllByRecursion P (cond b (x ∷ filter p xs) (filter p xs))
-    by true e rest = (all.0 e, rest)
-    by false e rest = rest
+all-passed P p (x ∷ xs) all = grind (arith, all-passed P p xs all.1, all.1, all.0)
 
 -- ---- declarations
 
@@ -66,15 +55,7 @@ together-stay ds es u before after same alike named apart = record {
 passed-all : {A : Type 0} (p f : A → Bool) (xs : List A) → list_all f (filter p xs) ≡ true
     → AllByRecursion (λ x. not (p x) ≡ false → f x ≡ true) xs
 passed-all p f [] all = tt
-passed-all p f (x ∷ xs) all = by (p x) refl all (passed-all p f xs)
-  where
-    by : (b : Bool) → p x ≡ b → list_all f (cond b (x ∷ filter p xs) (filter p xs)) ≡ true
-        → (list_all f (filter p xs) ≡ true → AllByRecursion (λ x. not (p x) ≡ false → f x ≡ true) xs)
-        → AllByRecursion (λ x. not (p x) ≡ false → f x ≡ true) (x ∷ xs)
-    by true e all rest =
-        let parts = and_parts (f x) (list_all f (filter p xs)) all in
-        (λ passed. parts.0, rest parts.1)
-    by false e all rest = (λ passed. absurd (false≢true (sym passed ∙ ap not e)), rest all)
+passed-all p f (x ∷ xs) all = grind (arith, passed-all p f xs, false≢true)
 
 module _ (ds : List Decl) (u : Unsettled) where
   pub whole-names : HaveNoClash ds (closed_of u ds) → list_all (is_nameless ds) (open_of u ds) ≡ true → HaveNoClash ds ds
@@ -92,8 +73,7 @@ module _ (ds : List Decl) (u : Unsettled) where
 
 -- those that are passed over are none
 all-passed-over : {A : Type 0} (looks : Bool) (more : List A) → (looks ≡ false → more ≡ []) → cond looks more [] ≡ more
-all-passed-over true more none = refl
-all-passed-over false more none = sym (none refl)
+all-passed-over t1 more none = grind arith
 
 -- where a report does not look at all for faults there are none
 pub together-told : (ds : List Decl) (looked : Together) → AreDistinct ds → HaveNoneTogether ds ds looked
@@ -123,8 +103,7 @@ none-anew ds looked found apart anew = record {
 module _ (less more : Unsettled) (looks : LooksAtMore less more) where
   -- where it looks at no more, it looked at no less
   known-before : (a b : Bool) → (a ≡ true → b ≡ true) → b ≡ false → a ≡ false
-  known-before false b still e = refl
-  known-before true b still e = absurd (false≢true (sym e ∙ still refl))
+  known-before t1 b still e = grind (arith, false≢true)
 
   shut-before : (k : DeclKey) → is_open more k ≡ false → is_open less k ≡ false
   shut-before k = known-before (is_open less k) (is_open more k) (looks.at k)

@@ -2,15 +2,14 @@
 use Rattle.cdi_report.proofs.Common.{◌≡◌, ℕ, Bool, true, false, cond, List, [], ◌∷◌, ◌++◌, map, flat_map, Some, None, refl, sym, ap, subst}
 use Rattle.cdi_report.proofs.Common.{◌∙◌, inl, inr, AllByRecursion, option_to_list, cases_Bool, false≢true, or_left, or_parts, or_right}
 use Rattle.cdi_report.proofs.Common.{list_any-append, kind_of, name_of_decl, key_at, same_key, same_key_equiv, find_decl, edited_all}
-use Rattle.cdi_report.proofs.Common.{edited_keys, is_among, mentions, Mention, UseOf, BeanDecl, Decl, Edit, DeclKey, Qual, own_records}
-use Rattle.cdi_report.proofs.Common.{Effective, BeanId, PointDecl, One, Word, same_word, word_at, words_have, words_named, words_named_in}
-use Rattle.cdi_report.proofs.Common.{words_of_observer, words_of_record, words_of_uses, Tells, answer_to, points_of, IsApart, IsStill, ◌||◌}
-use Rattle.cdi_report.proofs.Common.{key_of, BeanPlace, required, words_by, PointOf, StereotypeOf, TypeIn, StereotypeDecl, UseKind}
-use Rattle.cdi_report.proofs.Common.{TypePlace, words_of_point, among-named, point_named, ◌&&◌, list_any, bytes_eq, chain_of, filter, ◌⊎◌}
-use Rattle.cdi_report.proofs.Common.{Avoid, has, Kind, is_of, key_exact, stereotype_reads, stereotypes_of, one_text, same_text, AreDistinct}
-use Rattle.cdi_report.proofs.Common.{Moved, or_cases, records_in, made_of, IsNotEdited, named_in, IsUnconcerned, words_writing, has_one}
-use Rattle.cdi_report.proofs.Common.{keys_of_classes, keys_of_stereotypes, keys_under, names_of_kind, offered, reads_one, words_asking}
-use Rattle.cdi_report.proofs.Common.{words_sought}
+use Rattle.cdi_report.proofs.Common.{edited_keys, is_among, mentions, Mention, UseOf, BeanDecl, Decl, Edit, DeclKey, Qual, Effective}
+use Rattle.cdi_report.proofs.Common.{BeanId, PointDecl, One, Word, same_word, word_at, words_have, words_named, words_named_in}
+use Rattle.cdi_report.proofs.Common.{words_of_uses, Tells, answer_to, points_of, IsApart, IsStill, ◌||◌, key_of, BeanPlace, required}
+use Rattle.cdi_report.proofs.Common.{words_by, PointOf, StereotypeOf, TypeIn, StereotypeDecl, UseKind, TypePlace, words_of_point}
+use Rattle.cdi_report.proofs.Common.{among-named, point_named, ◌&&◌, list_any, bytes_eq, chain_of, filter, Avoid, has, Kind, key_exact}
+use Rattle.cdi_report.proofs.Common.{stereotype_reads, stereotypes_of, one_text, same_text, AreDistinct, Moved, or_cases, records_in}
+use Rattle.cdi_report.proofs.Common.{made_of, IsNotEdited, named_in, IsUnconcerned, words_writing, has_one, keys_of_classes}
+use Rattle.cdi_report.proofs.Common.{keys_of_stereotypes, keys_under, names_of_kind, offered, reads_one, words_asking, words_sought, arith}
 use Rattle.std.proofs.lemmas.Grind.{flat_map-append}
 use Rattle.cdi_model.specs.declared.decl.Decl.TheVariants as decls
 use Rattle.cdi_model.specs.declared.decl.Kind.TheVariants as kinds
@@ -22,9 +21,7 @@ use Rattle.cdi_index.specs.Made.{reads}
 use Rattle.cdi_index.proofs.NamedLemmas.{among-written}
 use Rattle.cdi_live.proofs.AskedLemmas.{any-among}
 use Rattle.cdi_concern.specs.Concern.{types_of_beans, is_inherited, is_of_kind, is_stereotype}
-use Rattle.cdi_report.proofs.ApartLemmas.{first-has}
-use Rattle.cdi_report.proofs.OfferLemmas.{offers_type, one-offers}
-use Rattle.cdi_report.proofs.SparedLemmas.{among-map}
+use Rattle.cdi_report.proofs.{ApartLemmas.first-has, OfferLemmas.offers_type, OfferLemmas.one-offers, SparedLemmas.among-map}
 use Rattle.cdi_report.proofs.WrittenLemmas.{declares-apart, inherits-apart, supers-apart, written-apart}
 use Rattle.cdi_report.specs.Spared.{AreInheritedSpared}
 
@@ -54,17 +51,7 @@ own-kind kind n = same_key_equiv.refl (key_at kind n)
 
 pub named-among : (kind : Kind) (keys : List DeclKey) (n : List ℕ) → is_among keys (key_at kind n) ≡ true → has (names_of_kind kind keys) n ≡ true
 named-among kind [] n among = absurd (false≢true among)
-named-among kind (k ∷ keys) n among = by (is_of_kind kind k) refl (or_cases (same_key k (key_at kind n)) (is_among keys (key_at kind n)) among)
-    (named-among kind keys n)
-  where
-    by : (b : Bool) → is_of_kind kind k ≡ b → (same_key k (key_at kind n) ≡ true) ⊎ (is_among keys (key_at kind n) ≡ true)
-        → (is_among keys (key_at kind n) ≡ true → has (names_of_kind kind keys) n ≡ true)
-        → has (map (λ x. x.name) (cond b (k ∷ filter (is_of_kind kind) keys) (filter (is_of_kind kind) keys))) n ≡ true
-    by true e (inl here) more = or_left (bytes_eq k.name n) (has (names_of_kind kind keys) n)
-        (same_text k.name n (ap (λ (x : DeclKey). x.name) (key_exact k (key_at kind n) here)))
-    by true e (inr later) more = or_right (bytes_eq k.name n) (has (names_of_kind kind keys) n) (more later)
-    by false e (inl here) more = absurd (false≢true (sym e ∙ ap (is_of_kind kind) (key_exact k (key_at kind n) here) ∙ own-kind kind n))
-    by false e (inr later) more = more later
+named-among kind (k ∷ keys) n among = grind (arith, named-among kind keys n, k.name, same_text, key_exact, false≢true, own-kind)
 
 -- ---- a declaration that is found
 
@@ -72,25 +59,7 @@ named-among kind (k ∷ keys) n among = by (is_of_kind kind k) refl (or_cases (s
 pub found-among : (test : Decl → Bool) (ds : List Decl) (d : Decl) → find_decl (kind_of d) (name_of_decl d) ds ≡ Some d → test d ≡ true
     → is_among (map key_of (filter test ds)) (key_of d) ≡ true
 found-among test [] d found passes = absurd (let no : None ≡ Some d = found in cc)
-found-among test (e ∷ ds) d found passes = by (is_of (kind_of d) (name_of_decl d) e) found (found-among test ds d)
-  where
-    first : (b : Bool) → b ≡ true → is_among (map key_of (cond b (d ∷ filter test ds) (filter test ds))) (key_of d) ≡ true
-    first true is = or_left (same_key (key_of d) (key_of d)) (is_among (map key_of (filter test ds)) (key_of d)) (same_key_equiv.refl (key_of d))
-    first false is = absurd (false≢true is)
-
-    more : (b : Bool) → is_among (map key_of (filter test ds)) (key_of d) ≡ true
-        → is_among (map key_of (cond b (e ∷ filter test ds) (filter test ds))) (key_of d) ≡ true
-    more true rest = or_right (same_key (key_of e) (key_of d)) (is_among (map key_of (filter test ds)) (key_of d)) rest
-    more false rest = rest
-
-    by : (b : Bool) → cond b (Some e) (find_decl (kind_of d) (name_of_decl d) ds) ≡ Some d
-        → (find_decl (kind_of d) (name_of_decl d) ds ≡ Some d → test d ≡ true → is_among (map key_of (filter test ds)) (key_of d) ≡ true)
-        → is_among (map key_of (filter test (e ∷ ds))) (key_of d) ≡ true
-    by true here rest =
-        let some : Some e ≡ Some d = here in
-        let same : e ≡ d = cc in
-        subst (λ x. is_among (map key_of (filter test (x ∷ ds))) (key_of d) ≡ true) (sym same) (first (test d) passes)
-    by false there rest = more (test e) (rest there passes)
+found-among test (e ∷ ds) d found passes = grind (arith, found-among test ds d, same_key_equiv.refl, false≢true)
 
 -- ---- declarations without points
 
@@ -171,10 +140,7 @@ module _ (edits : List Edit) (ds : List Decl) (m : Moved) (d : Decl) (distinct :
   -- ---- words
 
   no-word : has_one ds (words_sought ds m) d ≡ false
-  no-word = elim (cases_Bool (has_one ds (words_sought ds m) d)) [
-    | inl some ↦ absurd (false≢true (sym inner.1 ∙ found-among (has_one ds (words_sought ds m)) ds d found some))
-    | inr none ↦ none
-  ]
+  no-word = grind (arith, false≢true, inner.1, found-among)
 
   abbrev had : Word → Bool
   had w = words_have (words_by ds d) w
@@ -215,9 +181,7 @@ module _ (edits : List Edit) (ds : List Decl) (m : Moved) (d : Decl) (distinct :
   no-beans = none-back had (of-qualifiers ++ of-bindings ++ of-choices ++ of-events) of-beans to-beans
 
   to-bindings : list_any had (of-qualifiers ++ of-bindings) ≡ false
-  to-bindings = none-front had (of-qualifiers ++ of-bindings) of-choices
-      (none-front had (of-qualifiers ++ of-bindings ++ of-choices) of-events
-      (none-front had (of-qualifiers ++ of-bindings ++ of-choices ++ of-events) of-beans to-beans))
+  to-bindings = grind (arith, none-front, to-beans)
 
   qualifiers : (q : List ℕ) → is_among (edited_keys edits) (key_at kinds.Qualifier q) ≡ true → had (word_at reasons.Qualifies q) ≡ false
   qualifiers q among = none-named had reasons.Qualifies (names_of_kind kinds.Qualifier m.edited.now) q
@@ -347,11 +311,7 @@ module _ (edits : List Edit) (ds : List Decl) (m : Moved) (d : Decl) (distinct :
 -- a bean has the words of what it names
 named-in-bean : (ds : List Decl) (b : BeanDecl) (w : Word) → words_have (words_named (decls.Bean b)) w ≡ true
     → words_have (words_by ds (decls.Bean b)) w ≡ true
-named-in-bean ds b w h =
-    let own = flat_map words_of_record (own_records ds b) in
-    let observed = flat_map words_of_observer b.observers in
-    list_any-append (λ v. same_word v w) (own ++ observed) (words_named (decls.Bean b))
-    ∙ or_right (words_have (own ++ observed) w) (words_have (words_named (decls.Bean b)) w) h
+named-in-bean ds b w h = grind (arith, b.observers, list_any-append)
 
 -- the points of a declaration ask for no type of an affected bean
 chosen-still : (edits : List Edit) (ds : List Decl) (m : Moved) (d : Decl) → AreDistinct ds → find_decl (kind_of d) (name_of_decl d) ds ≡ Some d
@@ -394,14 +354,5 @@ names-apart edits ds m (decls.Qualifier q) distinct found same tells it = tt
 pub unconcerned-apart : (edits : List Edit) (ds : List Decl) (m : Moved) (d : Decl) → AreDistinct ds
     → find_decl (kind_of d) (name_of_decl d) ds ≡ Some d → m.edited.now ≡ edited_keys edits
     → Tells ds (edited_all ds edits) (edited_keys edits) m.affected.now → IsUnconcerned ds edits m d → IsApart ds edits m.affected.now d
-unconcerned-apart edits ds m d distinct found same tells it = record {
-  unedited = ap (λ keys. is_among keys (key_of d)) (sym same) ∙ (firsts edits ds m d distinct found same it).0;
-  unaffected = (firsts edits ds m d distinct found same it).1;
-  names = names-apart edits ds m d distinct found same tells it;
-  qualifiers = qualifiers edits ds m d distinct found same it;
-  bindings = bindings edits ds m d distinct found same it;
-  beans = λ class among. reads-none edits ds m d distinct found same it m.affected.now class (middle edits ds m d distinct found same it).1 among;
-  inherited = inherited edits ds m d distinct found same it d (outer edits ds m d distinct found same it).1 found;
-  answers = it.answers;
-  chosen = chosen-still edits ds m d distinct found same it;
-}
+unconcerned-apart edits ds m d distinct found same tells it =
+    grind (arith, m.affected.now, it.answers, firsts, names-apart, qualifiers, bindings, reads-none, middle, inherited, outer, chosen-still)

@@ -3,7 +3,7 @@ use Rattle.cdi_report.proofs.Common.{◌≡◌, ℕ, Bool, true, false, List, []
 use Rattle.cdi_report.proofs.Common.{cases_Bool, false≢true, or_left, or_parts, or_right, kind_of, name_of_decl, key_at, same_key}
 use Rattle.cdi_report.proofs.Common.{same_key_equiv, find_decl, is_among, Decl, DeclKey, Word, word_at, words_have, ◌||◌, key_of, words_by}
 use Rattle.cdi_report.proofs.Common.{list_any, bytes_eq, has, Moved, or_cases, is_concerned, words_writing, has_one, keys_of_classes}
-use Rattle.cdi_report.proofs.Common.{keys_of_stereotypes, keys_under, names_of_kind, offered, reads_one, words_asking, words_sought}
+use Rattle.cdi_report.proofs.Common.{keys_of_stereotypes, keys_under, names_of_kind, offered, reads_one, words_asking, words_sought, arith}
 use Rattle.cdi_model.specs.declared.decl.Kind.TheVariants as kinds
 use Rattle.cdi_postings.specs.declared.word.Reason.TheVariants as reasons
 use Rattle.cdi_report.proofs.OfferLemmas.{offers_type}
@@ -60,10 +60,7 @@ module _ (ds : List Decl) (m : Moved) (d : Decl) (clear : is_concerned ds m (key
 
   -- it is not the bean of a chain that is given up
   pub not-classed : (class : List ℕ) → key_of d ≡ key_at kinds.Bean class → has m.classes.now class ≡ false
-  not-classed class is = elim (cases_Bool (has m.classes.now class)) [
-    | inl among ↦ absurd (false≢true (sym classes-apart.1 ∙ ap (is_among (keys_of_classes m.classes.now)) is ∙ classed m.classes.now class among))
-    | inr none ↦ none
-  ]
+  not-classed class is = grind (arith, false≢true, classes-apart.1, classed)
 
   -- ---- words
 

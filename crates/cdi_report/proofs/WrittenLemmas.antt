@@ -6,7 +6,7 @@ use Rattle.cdi_report.proofs.Common.{UseOf, name_of_use, Decl, Edit, DeclKey, Qu
 use Rattle.cdi_report.proofs.Common.{words_written_in, Tells, ◌||◌, PointOf, StereotypeOf, TypeIn, BindingDecl, StereotypeDecl, TypeDecl}
 use Rattle.cdi_report.proofs.Common.{list_any, bytes_eq, types_brought, has, as_binding, brings_type_decides, types_brought-has, same_text}
 use Rattle.cdi_report.proofs.Common.{suc, Kind, key_exact, supers_of, types_of, is_type_decides, types_of-has, or_cases, made_of_binding}
-use Rattle.cdi_report.proofs.Common.{made_of_type, IsNotEdited, named_in, words_writing, among-names}
+use Rattle.cdi_report.proofs.Common.{made_of_type, IsNotEdited, named_in, words_writing, among-names, arith}
 use Rattle.cdi_model.specs.Decl.{declared_as}
 use Rattle.cdi_model.specs.declared.decl.Decl.TheVariants as decls
 use Rattle.cdi_model.specs.declared.decl.Kind.TheVariants as kinds
@@ -53,10 +53,7 @@ none-written test (k ∷ keys) kind n none among =
 
 module _ (keys : List DeclKey) (had : Word → Bool) (none : list_any had (words_writing keys) ≡ false) where
   apart-at : (kind : Kind) (n : List ℕ) → had (word_at (reasons.Writes kind) n) ≡ true → is_among keys (key_at kind n) ≡ false
-  apart-at kind n has = elim (cases_Bool (is_among keys (key_at kind n))) [
-    | inl among ↦ absurd (false≢true (sym (none-written had keys kind n none among) ∙ has))
-    | inr apart ↦ apart
-  ]
+  apart-at kind n has = grind (arith, false≢true, none-written)
 
   -- what has the words of all that it writes, and none of an edited name, writes no edited name
   pub written-apart : (ms : List Mention) → ((w : Word) → words_have (flat_map words_written_in ms) w ≡ true → had w ≡ true)

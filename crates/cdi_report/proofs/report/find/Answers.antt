@@ -1,7 +1,6 @@
 use Rattle.cdi_report.proofs.Common.{◌++◌, ap, ◌∙◌, same_key, key_of, ◌&&◌, list_any, open_of, faults_of, has_faults, faults_together}
 use Rattle.cdi_report.proofs.Common.{IfOk-weaker, flat_map}
-use Rattle.cdi_report.proofs.SettledLemmas.{open-found}
-use Rattle.cdi_report.proofs.TogetherLemmas.{none-anew, together-told}
+use Rattle.cdi_report.proofs.{SettledLemmas.open-found, TogetherLemmas.none-anew, TogetherLemmas.together-told}
 use Rattle.cdi_report.proofs.report.find.Goals as goal
 
 pub faults_among-requires-clause-found : goal.faults_among-requires-clause-found

@@ -1,5 +1,4 @@
-use Rattle.cdi_report.proofs.KeptLemmas.{settled_stay}
-use Rattle.cdi_report.proofs.TogetherLemmas.{more_is_settled}
+use Rattle.cdi_report.proofs.{KeptLemmas.settled_stay, TogetherLemmas.more_is_settled}
 use Rattle.cdi_report.proofs.unsettled.Unsettled.add.Goals as goal
 
 pub returns-in_err-add_keys-clause-stays : goal.returns-in_err-add_keys-clause-stays
