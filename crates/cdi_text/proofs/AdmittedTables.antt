@@ -1,13 +1,13 @@
 -- What sound tables spell, as a check of a declaration sees it: uses and events that have their forms, and lists that repeat nothing and are short.
-use Rattle.cdi_text.proofs.Common.{◌≡◌, ◌≤◌, ◌+◌, ℕ, Bool, true, false, not, List, [], ◌∷◌, map, length, codes, Option, Some, None}
-use Rattle.cdi_text.proofs.Common.{unwrap_or, option_and_then, option_map, refl, ap, sym, ◌∙◌, arith, nat_lt, and_parts, not-false, or_from}
-use Rattle.cdi_text.proofs.Common.{or_parts, nat_tests, list_any, flat_map, option_to_list, Data, string, table, Items, no_items, item}
-use Rattle.cdi_text.proofs.Common.{Members, get_member, as_array, as_str, as_table, of_part, list_limit, IsShortPart, PartDecl, PointDecl}
-use Rattle.cdi_text.proofs.Common.{PartPlace, event_of, has_twice, quals_from, use_of, BadName, Twice, Item, Call, Event, Name, Table}
-use Rattle.cdi_text.proofs.Common.{Schema, One, Many, are_sound, is_sound, is_sound_value, is_misspelt, misspell, count_of, labels_of}
-use Rattle.cdi_text.proofs.Common.{some_repeats, shape_of, calls_at, each, each_at, events_at, events_in, items_at, one_at, part_decl}
-use Rattle.cdi_text.proofs.Common.{quals_at, text_at, texts, texts_at, with_front, is_long, is_long_part, is_malformed, HasNone}
-use Rattle.cdi_text.proofs.Common.{none-append, none-false, none-flat_map, none-map}
+use Rattle.cdi_text.proofs.Common.{◌≡◌, ◌≤◌, ℕ, Bool, true, false, not, List, [], ◌∷◌, map, length, codes, Option, Some, None, unwrap_or}
+use Rattle.cdi_text.proofs.Common.{option_and_then, option_map, refl, ap, arith, nat_lt, and_parts, not-false, or_from, or_parts, nat_tests}
+use Rattle.cdi_text.proofs.Common.{list_any, flat_map, option_to_list, Data, string, table, Items, no_items, item, Members, get_member}
+use Rattle.cdi_text.proofs.Common.{as_array, as_str, as_table, of_part, list_limit, IsShortPart, PartDecl, PointDecl, PartPlace, event_of}
+use Rattle.cdi_text.proofs.Common.{has_twice, quals_from, use_of, BadName, Twice, Item, Call, Event, Name, Table, Schema, One, Many}
+use Rattle.cdi_text.proofs.Common.{are_sound, is_sound, is_sound_value, is_misspelt, misspell, count_of, labels_of, shape_of, calls_at}
+use Rattle.cdi_text.proofs.Common.{each, each_at, events_at, events_in, items_at, one_at, part_decl, quals_at, text_at, texts, texts_at}
+use Rattle.cdi_text.proofs.Common.{with_front, is_long, is_long_part, is_malformed, HasNone, none-append, none-false, none-flat_map}
+use Rattle.cdi_text.proofs.Common.{none-map}
 use Rattle.std.proofs.lemmas.List.{length-map}
 use Rattle.cdi_model.specs.{Mentions.of_event, Mentions.CallOf, declared.decl.EventDecl.EventDecl, declared.quals.Qual.Qual}
 use Rattle.cdi_uses.specs.Events.{is_event}
@@ -29,12 +29,7 @@ module _ {A : Type 0} (f : Members → A) (p : A → Bool) (inner : Schema) (goo
   -- none of the list at a key passes a test that nothing passes which a sound table spells
   pub none-each_at : (schema : Schema) (key : List ℕ) (ms : Members) → is_sound schema ms ≡ true
       → shape_of schema key ≡ Some (Many (Table inner)) → HasNone p (each_at f key ms)
-  none-each_at schema key ms sound shape =
-      by (option_and_then as_array (get_member key ms)) (λ ds e. tables_at schema inner key ds ms sound shape e)
-    where
-      by : (o : Option Items) → ((ds : Items) → o ≡ Some ds → are_sound inner ds ≡ true) → HasNone p (each f (unwrap_or o no_items))
-      by None each_sound = refl
-      by (Some ds) each_sound = none-each ds (each_sound ds refl)
+  none-each_at schema key ms sound shape = grind (arith, tables_at, none-each)
 
   -- nor does the one at a key
   pub none-one_at : (schema : Schema) (key : List ℕ) (ms : Members) → is_sound schema ms ≡ true
@@ -119,21 +114,14 @@ pub record IsProper (names : List (List ℕ)) : Type 0 where
 
 proper : (i : Item) (ds : Items) (names : List (List ℕ)) → labels_of i ds ≡ names → list_repeats i ds ≡ false
     → count_of ds ≤ list_limit → length names ≤ count_of ds → IsProper names
-proper i ds names same once few counted = record {
-  once = ap has_twice (sym same) ∙ (or_parts (has_twice (labels_of i ds)) (some_repeats i ds) once).0;
-  short = few-entries (length names) (omega (arith, few, counted));
-}
+proper i ds names same once few counted = grind (arith, few-entries)
 
 no-names : IsProper []
 no-names = record { once = refl; short = refl }
 
 length-texts : (ds : Items) → length (texts ds) ≤ count_of ds
 length-texts no_items = omega arith
-length-texts (item d ds) = by (as_str d) (length-texts ds)
-  where
-    by : (o : Option (List ℕ)) → length (texts ds) ≤ count_of ds → length (with_front o (texts ds)) ≤ 1 + count_of ds
-    by None few = omega (arith, few)
-    by (Some s) few = omega (arith, few)
+length-texts (item d ds) = grind (arith, length-texts ds)
 
 labels-texts : (ds : Items) → labels_of Name ds ≡ texts ds
 labels-texts no_items = refl
@@ -164,13 +152,7 @@ module _ {A : Type 0} (f : Members → A) (name : A → List ℕ) (inner : Schem
   -- those of the tables at a key
   pub labels-at : (schema : Schema) (key : List ℕ) (ms : Members) → is_sound schema ms ≡ true
       → shape_of schema key ≡ Some (Many (Table inner)) → labels_of (Table inner) (items_at key ms) ≡ map name (each_at f key ms)
-  labels-at schema key ms sound shape =
-      by (option_and_then as_array (get_member key ms)) (λ ds e. tables_at schema inner key ds ms sound shape e)
-    where
-      by : (o : Option Items) → ((ds : Items) → o ≡ Some ds → are_sound inner ds ≡ true)
-          → labels_of (Table inner) (unwrap_or o no_items) ≡ map name (each f (unwrap_or o no_items))
-      by None each_sound = refl
-      by (Some ds) each_sound = labels-each ds (each_sound ds refl)
+  labels-at schema key ms sound shape = grind (arith, tables_at, labels-each)
 
   pub proper-each : (schema : Schema) (key : List ℕ) (ms : Members) → is_sound schema ms ≡ true
       → shape_of schema key ≡ Some (Many (Table inner)) → IsProper (map name (each_at f key ms))

@@ -1,18 +1,18 @@
 -- What a text spells is not refused.
 use Rattle.cdi_text.proofs.Common.{◌≡◌, ℕ, Bool, true, false, cond, not, ◌||◌, List, [], ◌∷◌, ◌++◌, map, codes, Option, Some, None, is_some}
-use Rattle.cdi_text.proofs.Common.{unwrap_or, refl, ap, sym, ◌∙◌, option_and_then, subst, and_parts, false≢true, not-false, or_from}
-use Rattle.cdi_text.proofs.Common.{or_parts, AllByRecursion, list_any, flat_map, option_to_list, string, table, Items, no_items, item}
-use Rattle.cdi_text.proofs.Common.{Members, get_member, as_array, is_name, of_part, Kind, PartDecl, PointDecl, PartPlace, is_event_use}
-use Rattle.cdi_text.proofs.Common.{has_twice, is_text_among, is_named, is_own_use, is_use, use_name, use_of, BadName, Twice, Item, Declared}
-use Rattle.cdi_text.proofs.Common.{Name, ObservedUse, OwnUse, Table, Use, Schema, One, Many, are_sound, holds_ident, holds_name, is_sound}
+use Rattle.cdi_text.proofs.Common.{unwrap_or, refl, ap, sym, ◌∙◌, subst, and_parts, false≢true, not-false, or_from, or_parts}
+use Rattle.cdi_text.proofs.Common.{AllByRecursion, list_any, flat_map, option_to_list, string, table, Items, no_items, item, Members}
+use Rattle.cdi_text.proofs.Common.{get_member, is_name, of_part, Kind, PartDecl, PointDecl, PartPlace, is_event_use, has_twice}
+use Rattle.cdi_text.proofs.Common.{is_text_among, is_named, is_own_use, is_use, use_name, use_of, BadName, Twice, Item, Declared, Name}
+use Rattle.cdi_text.proofs.Common.{ObservedUse, OwnUse, Table, Use, Schema, One, Many, are_sound, holds_ident, holds_name, is_sound}
 use Rattle.cdi_text.proofs.Common.{is_required, is_misspelt, has_param_among, has_such_param_at, tables_of, schema_of, spelled, rows}
-use Rattle.cdi_text.proofs.Common.{shape_of, bean_decl, each, each_at, interceptor_decl, items_at, method_decl, observer_decl, one_at}
-use Rattle.cdi_text.proofs.Common.{part_decl, point_decl, producer_decl, quals_at, text_at, texts_at, is_built_in, is_long, is_long_part}
-use Rattle.cdi_text.proofs.Common.{is_malformed, HasNone, none-append, none-false, none-flat_map, none-map}
+use Rattle.cdi_text.proofs.Common.{shape_of, bean_decl, each, each_at, items_at, method_decl, observer_decl, one_at, part_decl, point_decl}
+use Rattle.cdi_text.proofs.Common.{producer_decl, quals_at, text_at, texts_at, is_built_in, is_long, is_long_part, is_malformed, HasNone}
+use Rattle.cdi_text.proofs.Common.{none-append, none-false, none-flat_map, none-map, arith}
 use Rattle.std.proofs.lemmas.List.Concat.{flat_map_single}
 use Rattle.base_lists.proofs.Any.{any-map}
 use Rattle.cdi_model.specs.Mentions.{TypeIn, UseOf, StereotypeOf, listed_types, mentions, of_attributes, of_bindings, of_disposer}
-use Rattle.cdi_model.specs.Mentions.{of_method, of_observer, of_parts, of_point, of_producer, of_qualifiers, part_place_of}
+use Rattle.cdi_model.specs.Mentions.{of_method, of_observer, of_parts, of_point, of_producer, of_qualifiers}
 use Rattle.cdi_model.specs.{Decl.kind_of, Decl.name_of_decl, declared.decl.MemberDecl.MemberDecl, declared.decl.ObserverDecl.ObserverDecl}
 use Rattle.cdi_model.specs.declared.mention.PointPlace.{PointPlace}
 use Rattle.cdi_model.specs.declared.decl.Kind.TheVariants as kinds
@@ -21,14 +21,13 @@ use Rattle.cdi_model.specs.declared.mention.PointPlace.TheVariants as points
 use Rattle.cdi_model.specs.declared.mention.TypePlace.TheVariants as places
 use Rattle.cdi_model.specs.declared.place.PartPlace.TheVariants as parts
 use Rattle.cdi_model.specs.declared.refusal.Refusal.TheVariants as refusals
-use Rattle.cdi_admission.specs.Admission.{declares_named, has_bad_name, has_long_list, has_long_part, has_param_named_as_point, is_no_use}
-use Rattle.cdi_admission.specs.Admission.{is_of_default, is_of_named, lists_of_attributes, lists_of_producer, name_lists, observes_default}
-use Rattle.cdi_admission.specs.Admission.{is_long_one, point_names, refusal_of_decl, repeats_name, shares_name}
+use Rattle.cdi_admission.specs.Admission.{declares_named, has_bad_name, has_long_part, has_param_named_as_point, is_no_use, is_of_default}
+use Rattle.cdi_admission.specs.Admission.{is_of_named, lists_of_attributes, lists_of_producer, name_lists, observes_default, is_long_one}
+use Rattle.cdi_admission.specs.Admission.{point_names, refusal_of_decl, shares_name}
 use Rattle.cdi_admission.proofs.UseLemmas.{spelt, spelt-event_use, spelt-own}
-use Rattle.cdi_text.proofs.FromTables.{from-text}
+use Rattle.cdi_text.proofs.{FromTables.from-text, AdmittedTables.short-body}
 use Rattle.cdi_text.proofs.Soundness.{no_condition, required_at, required_ident_at, sound_at, tables_at, text_found}
 use Rattle.cdi_text.proofs.AdmittedTables.{IsProper, labels-at, none-each_at, none-one_at, none-part, none-quals, proper-each, proper-names}
-use Rattle.cdi_text.proofs.AdmittedTables.{short-body}
 use Rattle.cdi_text.specs.Spelled.{attributes_of, disposer_decl, member_decl, stereotype_decl, the_text_at, type_decl}
 use Rattle.cdi_text.specs.Admitted.{TextsAreAdmitted}
 use Rattle.cdi_text.specs.declared.schema.Schema.TheVariants as schemas
@@ -108,23 +107,10 @@ one-good place schema key ms sound shape = by (one_at part_decl key ms)
     by (Some part) none = (or_parts (list_any is_malformed (of_part place [] part)) false none).0
 
 method-good : (ms : Members) → is_sound schemas.Method ms ≡ true → list_any is_malformed (of_method (method_decl ms)) ≡ false
-method-good ms sound =
-    let m = method_decl ms in
-    none-append is_malformed (of_bindings m.bindings) (of_part (parts.Method m.name) [] m.part)
-    (bindings-good schemas.Method (codes "bindings") ms sound refl) (none-part (parts.Method m.name) [] schemas.Method ms sound refl)
+method-good ms sound = grind (arith, none-append, bindings-good, none-part)
 
 producer-good : (ms : Members) → is_sound schemas.Producer ms ≡ true → list_any is_malformed (of_producer (producer_decl ms)) ≡ false
-producer-good ms sound =
-    let p = producer_decl ms in
-    let own = of_attributes p.attributes in
-    let bindings = of_bindings p.bindings in
-    let asked = flat_map (of_point (points.Producer p.name)) p.params in
-    none-append is_malformed (own ++ bindings ++ asked) (of_part (part_place_of p) p.params p.part)
-    (none-append is_malformed (own ++ bindings) asked
-    (none-append is_malformed own bindings (attributes-good schemas.Producer ms sound refl)
-    (bindings-good schemas.Producer (codes "bindings") ms sound refl))
-    (points-good (points.Producer p.name) schemas.Producer (codes "params") ms sound refl))
-    (none-part (part_place_of p) p.params schemas.Producer ms sound refl)
+producer-good ms sound = grind (arith, none-append, attributes-good, bindings-good, points-good, none-part)
 
 disposer-good : (ms : Members) → is_sound schemas.Disposer ms ≡ true → list_any is_malformed (of_disposer (disposer_decl ms)) ≡ false
 disposer-good ms sound =
@@ -149,14 +135,7 @@ observer-good ms sound =
 bodies-good : (ms : Members) → is_sound schemas.Bean ms ≡ true
     → HasNone is_malformed (of_parts parts.Construct (bean_decl ms).construct ++ of_parts parts.Post (bean_decl ms).post
     ++ of_parts parts.Pre (bean_decl ms).pre)
-bodies-good ms sound =
-    let d = bean_decl ms in
-    let construct = of_parts parts.Construct d.construct in
-    let post = of_parts parts.Post d.post in
-    none-append is_malformed (construct ++ post) (of_parts parts.Pre d.pre)
-    (none-append is_malformed construct post (one-good parts.Construct schemas.Bean (codes "construct") ms sound refl)
-    (one-good parts.Post schemas.Bean (codes "post") ms sound refl))
-    (one-good parts.Pre schemas.Bean (codes "pre") ms sound refl)
+bodies-good ms sound = grind (arith, none-append, one-good)
 
 bean-good : (ms : Members) → is_sound schemas.Bean ms ≡ true → HasNone is_malformed (mentions (spelled kinds.Bean ms))
 unfolding mentions
@@ -195,23 +174,7 @@ bean-good ms sound =
 
 interceptor-good : (ms : Members) → is_sound schemas.Interceptor ms ≡ true → HasNone is_malformed (mentions (spelled kinds.Interceptor ms))
 unfolding mentions
-interceptor-good ms sound =
-    let d = interceptor_decl ms in
-    let bindings = of_bindings d.bindings in
-    let asked = flat_map (of_point points.Constructor) d.points in
-    let invoke = of_parts parts.AroundInvoke d.around_invoke in
-    let construct = of_parts parts.AroundConstruct d.around_construct in
-    let post = of_parts parts.Post d.post in
-    let pre = of_parts parts.Pre d.pre in
-    none-append is_malformed (bindings ++ asked) (invoke ++ construct ++ post ++ pre)
-    (none-append is_malformed bindings asked (bindings-good schemas.Interceptor (codes "bindings") ms sound refl)
-    (points-good points.Constructor schemas.Interceptor (codes "points") ms sound refl))
-    (none-append is_malformed (invoke ++ construct ++ post) pre
-    (none-append is_malformed (invoke ++ construct) post
-    (none-append is_malformed invoke construct (one-good parts.AroundInvoke schemas.Interceptor (codes "around_invoke") ms sound refl)
-    (one-good parts.AroundConstruct schemas.Interceptor (codes "around_construct") ms sound refl))
-    (one-good parts.Post schemas.Interceptor (codes "post") ms sound refl))
-    (one-good parts.Pre schemas.Interceptor (codes "pre") ms sound refl))
+interceptor-good ms sound = grind (arith, none-append, bindings-good, points-good, one-good)
 
 -- what a sound table spells names no malformed use
 mentions-good : (kind : Kind) (ms : Members) → is_sound (schema_of kind) ms ≡ true → HasNone is_malformed (mentions (spelled kind ms))
@@ -286,11 +249,7 @@ observed-none _ ms sound = refl
 
 -- no name is bad
 names-good : (kind : Kind) (ms : Members) → is_sound (schema_of kind) ms ≡ true → has_bad_name (spelled kind ms) ≡ false
-names-good kind ms sound =
-    let d = spelled kind ms in
-    let built_in : is_built_in (kind_of d) (name_of_decl d) ≡ false = name-of kind ms ∙ declared-other kind ms sound in
-    none-of_four (is_built_in (kind_of d) (name_of_decl d)) (list_any is_malformed (mentions d)) (declares_named d) (observes_default d)
-    built_in (mentions-good kind ms sound) (own-other kind ms sound) (observed-none kind ms sound)
+names-good kind ms sound = grind (arith, name-of, declared-other, none-of_four, mentions-good, own-other, observed-none)
 
 -- ---- lists
 
@@ -338,13 +297,7 @@ module _ {A : Type 0} (f : Members → A) (lists : A → List (List (List ℕ)))
 
   all-each_at : (schema : Schema) (key : List ℕ) (ms : Members) → is_sound schema ms ≡ true
       → shape_of schema key ≡ Some (Many (Table inner)) → AllByRecursion IsProper (flat_map lists (each_at f key ms))
-  all-each_at schema key ms sound shape =
-      by (option_and_then as_array (get_member key ms)) (λ ds e. tables_at schema inner key ds ms sound shape e)
-    where
-      by : (o : Option Items) → ((ds : Items) → o ≡ Some ds → are_sound inner ds ≡ true)
-          → AllByRecursion IsProper (flat_map lists (each f (unwrap_or o no_items)))
-      by None each_sound = tt
-      by (Some ds) each_sound = all-each ds (each_sound ds refl)
+  all-each_at schema key ms sound shape = grind (arith, tables_at, all-each)
 
 proper-producer : (ms : Members) → is_sound schemas.Producer ms ≡ true → AllByRecursion IsProper (lists_of_producer (producer_decl ms))
 proper-producer ms sound =
@@ -411,14 +364,7 @@ module _ {A : Type 0} (f : Members → A) (params_in : A → List PointDecl) (in
       → shape_of schema key ≡ Some (Many (Table inner))
       → list_any (has_param_among (point_names points)) (tables_of (items_at key ms))
       ≡ list_any (λ x. shares_name points (params_in x)) (each_at f key ms)
-  shared-at schema key ms sound shape =
-      by (option_and_then as_array (get_member key ms)) (λ ds e. tables_at schema inner key ds ms sound shape e)
-    where
-      by : (o : Option Items) → ((ds : Items) → o ≡ Some ds → are_sound inner ds ≡ true)
-          → list_any (has_param_among (point_names points)) (tables_of (unwrap_or o no_items))
-          ≡ list_any (λ x. shares_name points (params_in x)) (each f (unwrap_or o no_items))
-      by None each_sound = refl
-      by (Some ds) each_sound = shared ds (each_sound ds refl)
+  shared-at schema key ms sound shape = grind (arith, tables_at, shared)
 
 labels-points : (schema : Schema) (key : List ℕ) (ms : Members) → is_sound schema ms ≡ true
     → shape_of schema key ≡ Some (Many (Table schemas.Point)) → params.point_names key ms ≡ point_names (each_at point_decl key ms)
@@ -464,12 +410,7 @@ parts-short kinds.Bean ms sound =
     (list_any (λ p. is_long_part p.part) d.producers) (list_any (λ o. is_long_part o.part) d.observers)
     (part-short schemas.Bean (codes "construct") ms sound refl) (part-short schemas.Bean (codes "post") ms sound refl)
     (part-short schemas.Bean (codes "pre") ms sound refl) methods producers observers
-parts-short kinds.Interceptor ms sound =
-    let d = interceptor_decl ms in
-    none-of_four (is_long_one d.around_invoke) (is_long_one d.around_construct) (is_long_one d.post) (is_long_one d.pre)
-    (part-short schemas.Interceptor (codes "around_invoke") ms sound refl)
-    (part-short schemas.Interceptor (codes "around_construct") ms sound refl) (part-short schemas.Interceptor (codes "post") ms sound refl)
-    (part-short schemas.Interceptor (codes "pre") ms sound refl)
+parts-short kinds.Interceptor ms sound = grind (arith, none-of_four, part-short)
 parts-short _ ms sound = refl
 
 -- ---- the law
@@ -480,15 +421,7 @@ none-refused a b c ha hb hc = rw (ha, hb, hc) refl
 
 admitted : (kind : Kind) (ms : Members) → is_sound (schema_of kind) ms ≡ true → refusal_of_decl (spelled kind ms) ≡ None
 unfolding refusal_of_decl
-admitted kind ms sound =
-    let d = spelled kind ms in
-    let lists = lists-proper kind ms sound in
-    let names : has_bad_name d ≡ false = names-good kind ms sound in
-    let once : repeats_name d ≡ false = or_from (list_any has_twice (name_lists d)) (has_param_named_as_point d)
-    (none-twice (name_lists d) lists) (params-apart kind ms sound) in
-    let short : has_long_list d ≡ false = or_from (list_any is_long (name_lists d)) (has_long_part d)
-    (none-long (name_lists d) lists) (parts-short kind ms sound) in
-    none-refused (has_bad_name d) (repeats_name d) (has_long_list d) names once short
+admitted kind ms sound = grind (arith, lists-proper, names-good, or_from, none-twice, params-apart, none-long, parts-short, none-refused)
 
 -- what a text spells is not refused
 pub texts_are_admitted : TextsAreAdmitted

@@ -4,10 +4,10 @@ use Rattle.cdi_text.proofs.Common.{option_and_then, is_some, Result, Ok, Err, re
 use Rattle.cdi_text.proofs.Common.{false≢true, none-some, same_Some, Data, table, Items, no_items, item, Members, get_member, as_table}
 use Rattle.cdi_text.proofs.Common.{as_array, Decl, Kind, Refusal, TooLong, Condition, Table, Schema, One, Many, first_condition, is_sound}
 use Rattle.cdi_text.proofs.Common.{is_sound_value, are_sound, decl_of, decl_of_members, decl_of_tree, refused_or, schema_of, spelled}
-use Rattle.cdi_text.proofs.Common.{tree_of, shape_of, one_at, each, each_at}
+use Rattle.cdi_text.proofs.Common.{tree_of, shape_of, one_at, each, each_at, arith}
 use Rattle.std.specs.List.{slice_get}
 use Rattle.cdi_text.proofs.Soundness.{table_at, tables_at}
-use Rattle.cdi_text.specs.Reading.{decl_of_kind, kind_in}
+use Rattle.cdi_text.specs.Reading.{decl_of_kind}
 
 -- ---- tables inside a table
 
@@ -37,9 +37,7 @@ from-one {A = A} f schema inner k ms x sound shape e =
 from-each : {A : Type 0} (f : Members → A) (schema : Schema) (ds : Items) (k : ℕ) (x : A) → are_sound schema ds ≡ true
     → slice_get (each f ds) k ≡ Some x → IsOfSound f schema x
 from-each f schema no_items k x sound e = absurd (cc)
-from-each f schema (item (table ms) ds) zero x sound e =
-    let both = and_parts (is_sound schema ms) (are_sound schema ds) sound in
-    record { ms = ms; sound = both.0; spells = same_Some (f ms) x e }
+from-each f schema (item (table ms) ds) zero x sound e = grind (arith, same_Some)
 from-each f schema (item (table ms) ds) (suc k) x sound e =
     from-each f schema ds k x (and_parts (is_sound schema ms) (are_sound schema ds) sound).1 e
 from-each f schema (item _ ds) k x sound e = from-each f schema ds k x sound e
@@ -72,11 +70,7 @@ module _ (P : Decl → Type 0) (holds : (kind : Kind) (ms : Members) → is_soun
       by (Some condition) first is = absurd (no-refusal _ d is)
 
   from-members : (ms : Members) (d : Decl) → decl_of_members ms ≡ Ok d → P d
-  from-members ms d e = by (kind_in ms) refl e
-    where
-      by : (o : Option Kind) → kind_in ms ≡ o → decl_of_members ms ≡ Ok d → P d
-      by None none is = absurd (no-refusal _ d (rw none at is))
-      by (Some kind) of is = from-kind kind ms d (rw of at is)
+  from-members ms d e = grind (arith, no-refusal, from-kind)
 
   from-tree : (o : Option Members) (d : Decl) → decl_of_tree o ≡ Ok d → P d
   from-tree None d e = absurd (no-refusal _ d e)

@@ -1,15 +1,14 @@
 -- The lists of a declaration that was read are short.
-use Rattle.cdi_text.proofs.Common.{◌≡◌, ◌≤◌, ◌+◌, ℕ, true, List, codes, length, Option, Some, None, unwrap_or, option_map, option_and_then}
-use Rattle.cdi_text.proofs.Common.{Result, Ok, Err, refl, subst, arith, IfOk, Items, no_items, item, Members, get_member, as_str, as_table}
-use Rattle.cdi_text.proofs.Common.{as_array, Answers, list_limit, IsShortPart, Decl, Kind, PartDecl, Error, event_of, Call, Event, Table}
-use Rattle.cdi_text.proofs.Common.{Schema, One, Many, is_sound, count_of, decl_of, schema_of, spelled, shape_of, with_front, items_at}
-use Rattle.cdi_text.proofs.Common.{calls_in, calls_at, events_in, events_at, one_at, each, each_at, part_decl, method_decl, point_decl}
-use Rattle.cdi_text.proofs.Common.{producer_decl, observer_decl, bean_decl, interceptor_decl}
+use Rattle.cdi_text.proofs.Common.{◌≡◌, ◌≤◌, ◌+◌, ℕ, true, List, codes, length, Option, Some, None, option_map, option_and_then, Result, Ok}
+use Rattle.cdi_text.proofs.Common.{Err, refl, subst, arith, IfOk, Items, no_items, item, Members, get_member, as_str, as_table, as_array}
+use Rattle.cdi_text.proofs.Common.{Answers, list_limit, IsShortPart, Decl, Kind, PartDecl, Error, event_of, Call, Event, Table, Schema, One}
+use Rattle.cdi_text.proofs.Common.{Many, is_sound, count_of, decl_of, schema_of, spelled, shape_of, with_front, items_at, calls_in}
+use Rattle.cdi_text.proofs.Common.{calls_at, events_in, events_at, one_at, each, each_at, part_decl, method_decl, point_decl, producer_decl}
+use Rattle.cdi_text.proofs.Common.{observer_decl, bean_decl, interceptor_decl}
 use Rattle.cdi_model.specs.Short.{HasShortLists, IsShortBean, IsShortInterceptor, IsShortObserver, IsShortProducer}
 use Rattle.cdi_model.specs.CallText.{call_of}
 use Rattle.cdi_model.specs.declared.decl.Kind.TheVariants as kinds
-use Rattle.cdi_text.proofs.FromTables.{from-one, from-each_at, from-text}
-use Rattle.cdi_text.proofs.Soundness.{count_at}
+use Rattle.cdi_text.proofs.{FromTables.from-one, FromTables.from-each_at, FromTables.from-text, Soundness.count_at}
 use Rattle.cdi_text.specs.declared.schema.Schema.TheVariants as schemas
 
 -- ---- lists
@@ -36,46 +35,28 @@ length-each f (item d ds) = length-front (option_map f (as_table d)) (each f ds)
 pub few-items : (schema : Schema) (ms : Members) (k : List ℕ)
     → ((ds : Items) → option_and_then as_array (get_member k ms) ≡ Some ds
     → count_of ds ≤ list_limit) → count_of (items_at k ms) ≤ list_limit
-few-items schema ms k few = by (option_and_then as_array (get_member k ms)) few
-  where
-    by : (o : Option Items) → ((ds : Items) → o ≡ Some ds → count_of ds ≤ list_limit)
-        → count_of (unwrap_or o no_items) ≤ list_limit
-    by None each_few = omega arith
-    by (Some ds) each_few = each_few ds refl
+few-items schema ms k few = grind arith
 
 few-calls : (schema : Schema) (ms : Members) → is_sound schema ms ≡ true
     → shape_of schema (codes "calls") ≡ Some (Many Call)
     → length (calls_at (codes "calls") ms) ≤ list_limit
-few-calls schema ms sound shape =
-    let few = few-items schema ms (codes "calls") (λ ds e. count_at schema Call (codes "calls") ds ms sound shape e) in
-    let calls = length-calls (items_at (codes "calls") ms) in
-    omega (arith, few, calls)
+few-calls schema ms sound shape = grind (arith, few-items, count_at, length-calls)
 
 few-fires : (schema : Schema) (ms : Members) → is_sound schema ms ≡ true
     → shape_of schema (codes "fires") ≡ Some (Many Event)
     → length (events_at (codes "fires") ms) ≤ list_limit
-few-fires schema ms sound shape =
-    let few = few-items schema ms (codes "fires") (λ ds e. count_at schema Event (codes "fires") ds ms sound shape e) in
-    let fires = length-events (items_at (codes "fires") ms) in
-    omega (arith, few, fires)
+few-fires schema ms sound shape = grind (arith, few-items, count_at, length-events)
 
 few-params : (schema : Schema) (ms : Members) → is_sound schema ms ≡ true
     → shape_of schema (codes "params") ≡ Some (Many (Table schemas.Point))
     → length (each_at point_decl (codes "params") ms) ≤ list_limit
-few-params schema ms sound shape =
-    let few = few-items schema ms (codes "params")
-    (λ ds e. count_at schema (Table schemas.Point) (codes "params") ds ms sound shape e) in
-    let params = length-each point_decl (items_at (codes "params") ms) in
-    omega (arith, few, params)
+few-params schema ms sound shape = grind (arith, few-items, count_at, length-each)
 
 -- the part of a sound table that has the keys of a part
 pub short-part : (schema : Schema) (ms : Members) → is_sound schema ms ≡ true
     → shape_of schema (codes "calls") ≡ Some (Many Call) → shape_of schema (codes "fires") ≡ Some (Many Event)
     → IsShortPart (part_decl ms)
-short-part schema ms sound calls fires = record {
-  calls = few-calls schema ms sound calls;
-  fires = few-fires schema ms sound fires;
-}
+short-part schema ms sound calls fires = grind (arith, few-calls, few-fires)
 
 -- ---- a bean, and an interceptor
 

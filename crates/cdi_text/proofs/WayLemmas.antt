@@ -1,13 +1,12 @@
 -- A way that is found leads to a place of which the condition holds.
-use Rattle.cdi_text.proofs.Common.{◌≡◌, ◌⊎◌, codes, ◌<◌, ℕ, zero, suc, Bool, true, false, ◌||◌, List, [], ◌∷◌, length, get_or, Option, Some}
-use Rattle.cdi_text.proofs.Common.{None, is_some, string_bytes, refl, sym, ap, subst, ◌∙◌, inl, inr, or_left, or_right, none-some}
-use Rattle.cdi_text.proofs.Common.{same_Some, Data, array, table, Items, no_items, item, Members, get_item, are_tables, view, items_view}
-use Rattle.cdi_text.proofs.Common.{members_view, Value, Condition, Item, Table, Twice, Schema, Shape, One, Many, Entry, table_has}
-use Rattle.cdi_text.proofs.Common.{value_has, inside_has, items_have, members_have, holds, HasKey, has_such_param_at, shape_of}
+use Rattle.cdi_text.proofs.Common.{◌≡◌, ◌⊎◌, codes, ◌<◌, ℕ, zero, suc, Bool, true, ◌||◌, List, [], ◌∷◌, length, get_or, Option, Some, None}
+use Rattle.cdi_text.proofs.Common.{string_bytes, refl, sym, ap, subst, ◌∙◌, inl, inr, or_left, or_right, none-some, same_Some, Data, array}
+use Rattle.cdi_text.proofs.Common.{table, Items, no_items, item, Members, get_item, are_tables, view, items_view, members_view, Value}
+use Rattle.cdi_text.proofs.Common.{Condition, Item, Table, Twice, Schema, Shape, One, Many, Entry, table_has, value_has, inside_has}
+use Rattle.cdi_text.proofs.Common.{items_have, members_have, holds, HasKey, has_such_param_at, shape_of, arith}
 use Rattle.std.proofs.Common.{IfSome, String, Vec}
 use Rattle.std.specs.declared.alloc.Global.{Global}
-use Rattle.cdi_text.proofs.MeaningLemmas.{has_some}
-use Rattle.cdi_text.proofs.ParamLemmas.{item_at, same_entry}
+use Rattle.cdi_text.proofs.{MeaningLemmas.has_some, ParamLemmas.item_at, ParamLemmas.same_entry}
 use Rattle.cdi_text.specs.Places.{Finds, IsBadEntry, IsByKey, IsToParams, LeadsFrom, LeadsTo}
 use Rattle.cdi_text.specs.{declared.steps.Step.Step, Params.FindsMethodAt, Params.IsSuchMethod, Params.has_param_named_as_point}
 use Rattle.cdi_text.specs.declared.schema.Schema.TheVariants as schemas
@@ -61,10 +60,7 @@ pub without_next : (c : Condition) (schema : Schema) (entries rest : Entries) (k
     (found : Option Way) → entries ≡ (key, v) ∷ rest → shape ≡ shape_of schema (string_bytes key) → found ≡ None
     → Finds c shape (view v) (value_has c shape (view v) || inside_has c shape (view v)) found
     → members_have c schema (members_view rest) ≡ members_have c schema (members_view entries)
-without_next c schema entries rest key v shape found e is none h =
-    let test : Option Shape → Bool = λ s. value_has c s (view v) || inside_has c s (view v) in
-    let no : false ≡ test (shape_of schema (string_bytes key)) = ap is_some (sym none) ∙ h.0 ∙ ap test is in
-    ap (λ b. b || members_have c schema (members_view rest)) no ∙ sym (ap (λ es. members_have c schema (members_view es)) e)
+without_next c schema entries rest key v shape found e is none h = grind (arith, h.0)
 
 -- ---- to params
 
@@ -133,14 +129,8 @@ by_found c schema ds index d found way longer all at some h by =
 -- an entry of a list that has the condition by itself
 pub to_entry : (c : Condition) (i : Item) (ds : Items) (index : ℕ) (found : Option ℕ) (way rest : List Step) → found ≡ Some index
     → IfSome found (IsBadEntry c i ds) → rest ≡ [] → way ≡ Entry index ∷ rest → LeadsTo c (Some (Many i)) (array ds) way
-to_entry c i ds index found way rest some bad none by =
-    let F : Option ℕ → Type 0 = λ f. IfSome f (IsBadEntry c i ds) in
-    let h : IsBadEntry c i ds index = subst F some bad in
-    let Q : List Step → Type 0 = λ steps. LeadsTo c (Some (Many i)) (array ds) steps in
-    subst Q (sym (by ∙ ap (λ w. Entry index ∷ w) none)) (i, ds, h.0, refl, refl, h.1, inl refl, h.2)
+to_entry c i ds index found way rest some bad none by = grind arith
 
 pub bad_at : (c : Condition) (i : Item) (xs vs : List Value) (index : ℕ) (v : Value) (b : Bool) → xs ≡ vs → index < length xs
     → v ≡ get_or xs index v → b ≡ true → b ≡ value_has c (Some (One i)) (view v) → IsBadEntry c i (items_view vs) index
-bad_at c i xs vs index v b same h is b-is found =
-    let at = same_entry xs vs index v same h is in
-    (view v, item_at vs index v at.0 ∙ ap (λ w. Some (view w)) (sym at.1), sym found ∙ b-is)
+bad_at c i xs vs index v b same h is b-is found = grind (arith, same_entry, item_at)
