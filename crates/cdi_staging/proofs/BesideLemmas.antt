@@ -46,24 +46,16 @@ pub second-at : {X Y : Type 0} (R : X → Y → Type 0) (xs : List X) (ys : List
     → slice_get xs k ≡ Some x → Second R ys k x
 second-at R [] ys k x both at = absurd (cc)
 second-at R (v ∷ xs) [] k x both at = absurd both
-second-at R (v ∷ xs) (y ∷ ys) zero x both at =
-    let same : v ≡ x = cc in
-    record { value = y; there = refl; fits = subst (λ w. R w y) same both.0 }
-second-at R (v ∷ xs) (y ∷ ys) (suc k) x both at =
-    let rest = second-at R xs ys k x both.1 at in
-    record { value = rest.value; there = rest.there; fits = rest.fits }
+second-at R (v ∷ xs) (y ∷ ys) zero x both at = grind (arith, both.0)
+second-at R (v ∷ xs) (y ∷ ys) (suc k) x both at = grind (arith, second-at R xs ys k x both.1 at, both.1)
 
 pub first-at : {X Y : Type 0} (R : X → Y → Type 0) (xs : List X) (ys : List Y) (k : ℕ) (y : Y) → Beside R xs ys
     → slice_get ys k ≡ Some y → First R xs k y
 first-at R [] [] k y both at = absurd (cc)
 first-at R [] (w ∷ ys) k y both at = absurd both
 first-at R (x ∷ xs) [] k y both at = absurd both
-first-at R (x ∷ xs) (w ∷ ys) zero y both at =
-    let same : w ≡ y = cc in
-    record { value = x; there = refl; fits = subst (λ v. R x v) same both.0 }
-first-at R (x ∷ xs) (w ∷ ys) (suc k) y both at =
-    let rest = first-at R xs ys k y both.1 at in
-    record { value = rest.value; there = rest.there; fits = rest.fits }
+first-at R (x ∷ xs) (w ∷ ys) zero y both at = grind (arith, both.0)
+first-at R (x ∷ xs) (w ∷ ys) (suc k) y both at = grind (arith, first-at R xs ys k y both.1 at, both.1)
 
 -- ---- what is found
 
@@ -158,12 +150,7 @@ of-find p xs x e = let at = finds p xs x e in found p xs at.0 x at.1 at.2
 -- where none is found none has a position
 none-from : {X : Type 0} (p : X → Bool) (n : ℕ) (xs : List X) → find p xs ≡ None → position_from p n xs ≡ None
 none-from p n [] e = refl
-none-from p n (v ∷ xs) e = by (p v) refl (none-from p (n + 1) xs) e
-  where
-    by : (b : Bool) → p v ≡ b → (find p xs ≡ None → position_from p (n + 1) xs ≡ None)
-        → cond b (Some v) (find p xs) ≡ None → position_from p n (v ∷ xs) ≡ None
-    by true passes more is = absurd (cc)
-    by false passes more is = ap (λ b. cond b (Some n) (position_from p (n + 1) xs)) passes ∙ more is
+none-from p n (v ∷ xs) e = grind (arith, none-from p (n + 1) xs)
 
 pub no-position : {X : Type 0} (p : X → Bool) (xs : List X) → find p xs ≡ None → position p xs ≡ None
 no-position p xs e = position_from-zero p xs ∙ none-from p 0 xs e
@@ -171,12 +158,7 @@ no-position p xs e = position_from-zero p xs ∙ none-from p 0 xs e
 -- what is found in one list, or else in another, is found in both
 pub find-append : {X : Type 0} (p : X → Bool) (xs ys : List X) → find p (xs ++ ys) ≡ option_or (find p xs) (find p ys)
 find-append p [] ys = refl
-find-append p (v ∷ xs) ys = by (p v) (find-append p xs ys)
-  where
-    by : (b : Bool) → find p (xs ++ ys) ≡ option_or (find p xs) (find p ys)
-        → cond b (Some v) (find p (xs ++ ys)) ≡ option_or (cond b (Some v) (find p xs)) (find p ys)
-    by true rest = refl
-    by false rest = rest
+find-append p (v ∷ xs) ys = grind (arith, find-append p xs ys)
 
 pub in-append-left : {X : Type 0} (xs ys : List X) (k : ℕ) (x : X) → slice_get xs k ≡ Some x → (i : ℕ) × (slice_get (xs ++ ys) i ≡ Some x)
 in-append-left [] ys k x e = absurd (cc)

@@ -4,7 +4,7 @@ use Rattle.cdi_staging.proofs.Common.{slice_get, and_parts, false≢true, AreDis
 use Rattle.cdi_staging.proofs.Common.{length, inl, inr, same_Some, ◌≢◌, ◌&&◌, unwrap_or, bytes_eq, Qual, has, same_text, Promised, Bean}
 use Rattle.cdi_staging.proofs.Common.{Managed, Product, as_managed, bean_at, beans, entries, managed, product, effective, as_bean}
 use Rattle.cdi_staging.proofs.Common.{find_bean, BeanId, Effective, is_told_by, One, position_of_bean, position_of_class, managed_form}
-use Rattle.cdi_staging.proofs.Common.{scene_of, staged_beans, staged_product, unused_managed, at-map}
+use Rattle.cdi_staging.proofs.Common.{scene_of, staged_beans, staged_product, unused_managed, at-map, arith}
 use Rattle.std.proofs.Common.{◌⊎◌}
 use Rattle.std.specs.Option.{option_eq}
 use Rattle.cdi_model.specs.declared.decl.Decl.TheVariants as decls
@@ -86,9 +86,7 @@ option-same (Some x) None e = absurd (false≢true e)
 option-same (Some x) (Some y) e = ap Some (one_text x y e)
 
 pub told-is : (id : BeanId) (x : Effective) → is_told_by id x ≡ true → (x.id.class ≡ id.class) × (x.id.producer ≡ id.producer)
-told-is id x e =
-    let both = and_parts (bytes_eq x.id.class id.class) (option_eq bytes_eq x.id.producer id.producer) e in
-    (one_text x.id.class id.class both.0, option-same x.id.producer id.producer both.1)
+told-is id x e = grind (arith, x.id.class, id.class, x.id.producer, id.producer, one_text, option-same)
 
 -- ---- records beside beans
 
@@ -115,11 +113,7 @@ Stands ds book x bean = OfManaged ds book x bean ⊎ OfProduct ds book x bean
 of-decl : (ds : List Decl) (book : List Promised) (k : ℕ) (d : Decl) → slice_get ds k ≡ Some d
     → Beside (Stands ds book) (entries ds d) (staged_beans ds book d)
 unfolding staged_beans
-of-decl ds book k (decls.Bean d) at = (
-  inl (record { decl = d; place = k; there = at; is = refl; made = refl }),
-  beside-map (Stands ds book) (product ds d) (staged_product ds book d) d.producers
-      (λ j p e. inr (record { decl = d; place = k; there = at; producer = p; at = j; declared = e; is = refl; made = refl })),
-)
+of-decl ds book k (decls.Bean d) at = grind (arith, d.producers, beside-map)
 of-decl ds book k other at = tt
 
 -- the beans of the scene stand beside their records
@@ -144,17 +138,13 @@ pub of-none : (ds : List Decl) (book : List Promised) (x : Effective) (bean : Be
     → OfManaged ds book x bean
 of-none ds book x bean (inl managed_one) none = managed_one
 of-none ds book x bean (inr produced) none =
-    let clash : None ≡ Some produced.producer.name = sym none ∙ ap (λ y. y.id.producer) produced.is
-    ∙ product-producer ds produced.decl produced.producer in
-    absurd (cc)
+    grind (arith, produced.producer.name, produced.is, produced.decl, produced.producer, product-producer)
 
 -- a record of a producer method is that of a product
 pub of-some : (ds : List Decl) (book : List Promised) (x : Effective) (bean : Bean) (p : List ℕ) → Stands ds book x bean
     → x.id.producer ≡ Some p → OfProduct ds book x bean
 of-some ds book x bean p (inr produced) some = produced
-of-some ds book x bean p (inl managed_one) some =
-    let clash : None ≡ Some p = sym (managed-id ds managed_one.decl).1 ∙ sym (ap (λ y. y.id.producer) managed_one.is) ∙ some in
-    absurd (cc)
+of-some ds book x bean p (inl managed_one) some = grind (arith, managed_one.decl, managed_one.is, managed-id)
 
 -- the managed bean of a class and of an enabled bean of it
 pub record IsManagedOf (ds : List Decl) (book : List Promised) (class : List ℕ) (bean : Bean) : Type 0 where
@@ -170,9 +160,7 @@ pub record Reached (ds : List Decl) (book : List Promised) (id : BeanId) : Type 
 
 pub named-decl : (ds : List Decl) (book : List Promised) (x : Effective) (bean : Bean) (class : List ℕ) → AreDistinct ds
     → (m : OfManaged ds book x bean) → x.id.class ≡ class → find_bean class ds ≡ Some m.decl
-named-decl ds book x bean class distinct m is =
-    let name : m.decl.name ≡ class = sym (managed-id ds m.decl).0 ∙ sym (ap (λ y. y.id.class) m.is) ∙ is in
-    subst (λ n. find_bean n ds ≡ Some m.decl) name (bean-found ds m.place m.decl distinct m.there)
+named-decl ds book x bean class distinct m is = grind (arith, m.decl.name, m.decl, m.is, m.place, m.there, managed-id, bean-found)
 
 pub reached : (ds : List Decl) (book : List Promised) (id : BeanId) → AreDistinct ds → IsOffered id (beans ds) → Reached ds book id
 reached ds book id distinct offered =

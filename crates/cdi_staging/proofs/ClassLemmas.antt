@@ -1,10 +1,11 @@
 -- The interceptors around the places of a bean that is declared, by the names that are told of them.
-use Rattle.cdi_staging.proofs.Common.{◌≡◌, ℕ, zero, suc, Bool, true, false, List, [], ◌∷◌, ◌++◌, map, Some, Contains, refl, sym, ap, subst}
-use Rattle.cdi_staging.proofs.Common.{◌∙◌, slice_get, false≢true, slice_get-get_or, AreDistinct, BeanDecl, Decl, InterceptorDecl, same_text}
+use Rattle.cdi_staging.proofs.Common.{◌≡◌, ℕ, zero, suc, Bool, true, false, List, [], ◌∷◌, ◌++◌, map, Some, Contains, refl, sym, ap, ◌∙◌}
+use Rattle.cdi_staging.proofs.Common.{slice_get, false≢true, slice_get-get_or, AreDistinct, BeanDecl, Decl, InterceptorDecl, same_text}
 use Rattle.cdi_staging.proofs.Common.{MethodDecl, ObserverDecl, ProducerDecl, BeanPlace, in_order, has_place, ◌+◌, cond, filter, length}
 use Rattle.cdi_staging.proofs.Common.{◌≢◌, ◌&&◌, bytes_eq, has, ◌<◌, not, get_or, is_some, option_map, append_assoc, slice_get-map}
 use Rattle.cdi_staging.proofs.Common.{class_bindings, surrounds, surrounds_one, set_by, sets_of, names_at, around_in, names_among, Around}
 use Rattle.cdi_staging.proofs.Common.{around_of, chain_at, injections_around, injections_from, places_from, targets, Injection, at-map}
+use Rattle.cdi_staging.proofs.Common.{arith}
 use Rattle.std.proofs.lemmas.{List.map-id, Option.get_or_from_slice_get, Option.slice_get_within, Simd.map-map}
 use Rattle.cdi_model.specs.declared.place.BeanPlace.TheVariants as spots
 use Rattle.cdi_contexts.specs.declared.instance.Actor.TheVariants.{Interceptor as By}
@@ -40,13 +41,7 @@ injections-same p q n (a ∷ xs) same =
 
 filter-mapped : {X Y : Type 0} (f : X → Y) (p : Y → Bool) (xs : List X) → filter p (map f xs) ≡ map f (filter (λ x. p (f x)) xs)
 filter-mapped f p [] = refl
-filter-mapped {X = X} f p (x ∷ xs) = by (p (f x)) (filter-mapped f p xs)
-  where
-    by : (b : Bool) → filter p (map f xs) ≡ map f (filter (λ y. p (f y)) xs)
-        → cond b (f x ∷ filter p (map f xs)) (filter p (map f xs))
-        ≡ map f (cond b (x ∷ filter (λ y. p (f y)) xs) (filter (λ y. p (f y)) xs))
-    by true more = ap (λ rest. f x ∷ rest) more
-    by false more = more
+filter-mapped {X = X} f p (x ∷ xs) = grind (arith, filter-mapped f p xs)
 
 -- ---- the interceptors that are enabled, by their names
 
@@ -77,9 +72,7 @@ told : (ds : List Decl) (names : List (List ℕ)) (test : InterceptorDecl → Bo
     → ((k : ℕ) (i : InterceptorDecl) → slice_get (in_order ds) k ≡ Some i → has names i.name ≡ test i)
     → (k : ℕ) (a : Around) → slice_get (around_of ds) k ≡ Some a → has names a.0.name ≡ test a.0
 unfolding around_of
-told ds names test each k a at =
-    let one = at-map (with_targets ds) (in_order ds) k a at in
-    subst (λ (b : Around). has names b.0.name ≡ test b.0) one.2 (each k one.0 one.1)
+told ds names test each k a at = grind (arith, at-map)
 
 -- the interceptors that stand around a place
 abbrev stands_at : List Decl → BeanDecl → BeanPlace → InterceptorDecl → Bool
@@ -118,37 +111,17 @@ injections-named ds bean distinct =
 first-named : (names : List (List ℕ)) (n : List ℕ) (others : List (List ℕ)) (rest : List Around)
     → names_among names rest ≡ n ∷ others → has names n ≡ true
 first-named names n others [] are = absurd (cc)
-first-named names n others (a ∷ rest) are = by (has names a.0.name) refl (first-named names n others rest) are
-  where
-    by : (b : Bool) → has names a.0.name ≡ b → (names_among names rest ≡ n ∷ others → has names n ≡ true)
-        → map (λ (x : Around). x.0.name) (cond b (a ∷ filter (λ x. has names x.0.name) rest) (filter (λ x. has names x.0.name) rest))
-        ≡ n ∷ others → has names n ≡ true
-    by true e more here =
-        let same : a.0.name ≡ n = cc in
-        subst (λ m. has names m ≡ true) same e
-    by false e more here = more here
+first-named names n others (a ∷ rest) are = grind (arith, first-named names n others rest, a.0.name)
 
 -- where the first that is left is the name of the next interceptor, this is named
 pub named-next : (names left others : List (List ℕ)) (a : Around) (rest : List Around) → left ≡ names_among names (a ∷ rest)
     → left ≡ a.0.name ∷ others → (has names a.0.name ≡ true) × (others ≡ names_among names rest)
-named-next names left others a rest among first = by (has names a.0.name) refl (sym among ∙ first)
-  where
-    by : (b : Bool) → has names a.0.name ≡ b
-        → map (λ (x : Around). x.0.name) (cond b (a ∷ filter (λ x. has names x.0.name) rest) (filter (λ x. has names x.0.name) rest))
-        ≡ a.0.name ∷ others → (has names a.0.name ≡ true) × (others ≡ names_among names rest)
-    by true e are = (e, cc)
-    by false e are = absurd (false≢true (sym e ∙ first-named names a.0.name others rest are))
+named-next names left others a rest among first = grind (arith, a.0.name, false≢true, first-named)
 
 -- and else it is not
 pub not-named-next : (names left : List (List ℕ)) (a : Around) (rest : List Around) → left ≡ names_among names (a ∷ rest)
     → ((others : List (List ℕ)) → left ≢ a.0.name ∷ others) → (has names a.0.name ≡ false) × (left ≡ names_among names rest)
-not-named-next names left a rest among none = by (has names a.0.name) refl among
-  where
-    by : (b : Bool) → has names a.0.name ≡ b
-        → left ≡ map (λ (x : Around). x.0.name) (cond b (a ∷ filter (λ x. has names x.0.name) rest) (filter (λ x. has names x.0.name) rest))
-        → (has names a.0.name ≡ false) × (left ≡ names_among names rest)
-    by true e are = absurd (none (names_among names rest) are)
-    by false e are = (e, are)
+not-named-next names left a rest among none = grind (arith, a.0.name)
 
 pub places-next : {X : Type 0} (test : X → Bool) (n : ℕ) (x : X) (xs : List X) (olds all : List ℕ) → test x ≡ true
     → olds ++ places_from test n (x ∷ xs) ≡ all → (olds ++ n ∷ []) ++ places_from test (n + 1) xs ≡ all
@@ -163,11 +136,7 @@ places-past test n x xs olds all is before =
 pub injected-next : (test : InterceptorDecl → Bool) (n : ℕ) (a : Around) (rest : List Around) (olds news all : List Injection)
     → test a.0 ≡ true → news ≡ olds ++ injections_from (By n) 0 a.1 → olds ++ injections_around test n (a ∷ rest) ≡ all
     → news ++ injections_around test (n + 1) rest ≡ all
-injected-next test n a rest olds news all is pushed before =
-    let own = injections_from (By n) 0 a.1 in
-    let others = injections_around test (n + 1) rest in
-    ap (λ list. list ++ others) pushed ∙ append_assoc olds own others
-    ∙ ap (λ b. olds ++ (cond b own [] ++ others)) (sym is) ∙ before
+injected-next test n a rest olds news all is pushed before = grind (arith, a.1, append_assoc)
 
 pub injected-past : (test : InterceptorDecl → Bool) (n : ℕ) (a : Around) (rest : List Around) (olds all : List Injection)
     → test a.0 ≡ false → olds ++ injections_around test n (a ∷ rest) ≡ all → olds ++ injections_around test (n + 1) rest ≡ all

@@ -1,23 +1,20 @@
 -- Interceptors in the scene: where they stand, what is chosen for their injection points, and their bodies.
 use Rattle.cdi_staging.proofs.Common.{at-back, at-joined, at-map, ◌≡◌, ℕ, zero, suc, Bool, true, false, List, [], ◌∷◌, ◌++◌, map, Option}
-use Rattle.cdi_staging.proofs.Common.{Some, None, refl, sym, ap, subst, ◌∙◌, arith, slice_get, and_parts, false≢true, AreDistinct, BeanDecl}
-use Rattle.cdi_staging.proofs.Common.{Decl, InterceptorDecl, PartDecl, BeanPlace, in_order, in_order-declared, ◌+◌, cond, inl, inr}
-use Rattle.cdi_staging.proofs.Common.{same_Some, Promised, beans, managed_form, scene_of, is_some, option_map, slice_get-map}
-use Rattle.cdi_staging.proofs.Common.{class_bindings, surrounds, surrounds_one, set_by, sets_of, Around, around_of, chain_at}
-use Rattle.cdi_staging.proofs.Common.{injections_around, injections_from, places_from, targets, Injection, option_and_then, bit_and}
-use Rattle.cdi_staging.proofs.Common.{none-some, Has, managed_at, home_of, IsAllowedAt, IsNamed, IsOwnPoint, IsSoundAt, Place, Seat, Part}
-use Rattle.cdi_staging.proofs.Common.{Via, Own, Param, AreFineAround, IsFinePart, fired_at, site_of, staged_interceptor, staged_part}
-use Rattle.cdi_staging.proofs.Common.{Target}
+use Rattle.cdi_staging.proofs.Common.{Some, None, refl, sym, ap, ◌∙◌, arith, slice_get, and_parts, false≢true, AreDistinct, BeanDecl, Decl}
+use Rattle.cdi_staging.proofs.Common.{InterceptorDecl, PartDecl, BeanPlace, in_order, in_order-declared, ◌+◌, cond, inl, inr, same_Some}
+use Rattle.cdi_staging.proofs.Common.{Promised, beans, managed_form, scene_of, is_some, option_map, slice_get-map, class_bindings}
+use Rattle.cdi_staging.proofs.Common.{surrounds, surrounds_one, set_by, sets_of, Around, around_of, chain_at, injections_around}
+use Rattle.cdi_staging.proofs.Common.{injections_from, places_from, targets, Injection, option_and_then, bit_and, none-some, Has}
+use Rattle.cdi_staging.proofs.Common.{managed_at, home_of, IsAllowedAt, IsNamed, IsOwnPoint, IsSoundAt, Place, Seat, Part, Via, Own, Param}
+use Rattle.cdi_staging.proofs.Common.{AreFineAround, IsFinePart, fired_at, site_of, staged_interceptor, staged_part, Target}
 use Rattle.cdi_bodies.specs.Flags as flags
 use Rattle.cdi_contexts.specs.declared.instance.Actor.TheVariants.{Target as ByTarget, Interceptor as By}
 use Rattle.cdi_contexts.specs.declared.instance.Actor.{Actor}
 use Rattle.cdi_scene.specs.Scene.{interceptor_at, part_for}
 use Rattle.cdi_scene.specs.declared.place.Place.TheVariants as places
 use Rattle.cdi_intercept.specs.Chains.{part_for as declared_for}
-use Rattle.cdi_staging.proofs.BesideLemmas.{in-append-left}
+use Rattle.cdi_staging.proofs.{BesideLemmas.in-append-left, SoundLemmas.none-satisfied, SoundLemmas.part-there, ChosenLemmas.IsUsed}
 use Rattle.cdi_staging.proofs.PartLemmas.{NamesVia, part-sound, seen}
-use Rattle.cdi_staging.proofs.SoundLemmas.{none-satisfied, part-there}
-use Rattle.cdi_staging.proofs.ChosenLemmas.{IsUsed}
 use Rattle.cdi_staging.specs.Faultless.{IsFineAround}
 
 -- ---- who stands in a chain
@@ -56,16 +53,7 @@ with_targets ds i = (i, targets ds i.points)
 pub link-of : (ds : List Decl) (bean : BeanDecl) (spot : BeanPlace) (k q : ℕ) → slice_get (chain_at ds bean spot) k ≡ Some q
     → Link ds bean spot q
 unfolding around_of
-link-of ds bean spot k q e =
-    let set = set_by ds (class_bindings ds bean) bean spot in
-    let found = places-of (λ a. surrounds ds set spot a.0) 0 (map (with_targets ds) (in_order ds)) k q e in
-    let i = at-map (with_targets ds) (in_order ds) found.0 found.1 found.2 in
-    let place : found.0 ≡ q = omega (arith, found.4) in
-    record {
-      decl = i.0;
-      at = subst (λ j. slice_get (in_order ds) j ≡ Some i.0) place i.1;
-      stands = ap (λ a. surrounds ds set spot a.0) i.2 ∙ found.3;
-    }
+link-of ds bean spot k q e = grind (arith, places-of, at-map)
 
 -- ---- injection points
 
@@ -75,12 +63,8 @@ injected actor point b = record { actor = actor; point = point; bean = b }
 pub injection-there : (actor : Actor) (n : ℕ) (ts : List Target) (k : ℕ) (t : Target) → slice_get ts k ≡ Some t
     → slice_get (injections_from actor n ts) k ≡ Some (injected actor (n + k) t.bean)
 injection-there actor n [] k t e = absurd (none-some t e)
-injection-there actor n (u ∷ ts) zero t e =
-    let first : n ≡ n + 0 = omega arith in
-    ap (λ o. option_map (λ v. injected actor n v.bean) o) e ∙ ap (λ p. Some (injected actor p t.bean)) first
-injection-there actor n (u ∷ ts) (suc k) t e =
-    let place : n + 1 + k ≡ n + suc k = omega arith in
-    injection-there actor (n + 1) ts k t e ∙ ap (λ p. Some (injected actor p t.bean)) place
+injection-there actor n (u ∷ ts) zero t e = grind (arith, t.bean)
+injection-there actor n (u ∷ ts) (suc k) t e = grind (arith, injection-there actor (n + 1) ts k t e, t.bean)
 
 -- an injection point of one that passes is there
 pub around-there : (test : InterceptorDecl → Bool) (n : ℕ) (around : List Around) (j : ℕ) (a : Around) (p : ℕ) (t : Target)
@@ -122,26 +106,11 @@ injection-of actor n [] k x e = absurd (none-some x e)
 injection-of actor n (t ∷ ts) zero x e =
     let first : n ≡ n + 0 = omega arith in
     (t, refl, sym (same_Some _ x e) ∙ ap (λ p. injected actor p t.bean) first)
-injection-of actor n (t ∷ ts) (suc k) x e =
-    let rest = injection-of actor (n + 1) ts k x e in
-    let place : n + 1 + k ≡ n + suc k = omega arith in
-    (rest.0, rest.1, rest.2 ∙ ap (λ p. injected actor p rest.0.bean) place)
+injection-of actor n (t ∷ ts) (suc k) x e = grind (arith, injection-of actor (n + 1) ts k x e)
 
 from-block : (n : ℕ) (b : Around) (around : List Around) (c : Bool) (k : ℕ) (x : Injection)
     → slice_get (cond c (injections_from (By n) 0 b.1) []) k ≡ Some x → OfAround n (b ∷ around) x
-from-block n b around true k x e =
-    let found = injection-of (By n) 0 b.1 k x e in
-    let first : n ≡ n + 0 = omega arith in
-    record {
-      place = zero;
-      one = b;
-      there = refl;
-      point = 0 + k;
-      target = found.0;
-      chosen = (let place : k ≡ 0 + k = omega arith in subst (λ p. slice_get b.1 p ≡ Some found.0) place found.1);
-      is = found.2 ∙ ap (λ m. injected (By m) (0 + k) found.0.bean) first;
-    }
-from-block n b around false k x e = absurd (none-some x e)
+from-block n b around t1 k x e = grind (arith, b.1, injection-of, none-some)
 
 pub from-around : (test : InterceptorDecl → Bool) (n : ℕ) (around : List Around) (k : ℕ) (x : Injection)
     → slice_get (injections_around test n around) k ≡ Some x → OfAround n around x
@@ -172,29 +141,13 @@ AreApart xs = (j k : ℕ) (x y : Injection) → slice_get xs j ≡ Some x → sl
 pub apart-append : (xs ys : List Injection) → AreApart xs → AreApart ys
     → ((j k : ℕ) (x y : Injection) → slice_get xs j ≡ Some x → slice_get ys k ≡ Some y → x.actor ≡ y.actor → ⊥)
     → AreApart (xs ++ ys)
-apart-append xs ys front behind other j k x y e f actor point =
-    elim (at-joined xs ys j x e) [
-      | inl first ↦ elim (at-joined xs ys k y f) [
-        | inl second ↦ front j k x y first second actor point
-        | inr second ↦ absurd (other j second.0 x y first second.2 actor)
-      ]
-      | inr first ↦ elim (at-joined xs ys k y f) [
-        | inl second ↦ absurd (other k first.0 y x second first.2 (sym actor))
-        | inr second ↦
-            let same = behind first.0 second.0 x y first.2 second.2 actor point in
-            omega (arith, first.1, second.1, same)
-      ]
-    ]
+apart-append xs ys front behind other j k x y e f actor point = grind (arith, at-joined)
 
 pub apart-from : (actor : Actor) (n : ℕ) (ts : List Target) → AreApart (injections_from actor n ts)
-apart-from actor n ts j k x y e f same point =
-    let one = ap (λ i. i.point) (injection-of actor n ts j x e).2 in
-    let other = ap (λ i. i.point) (injection-of actor n ts k y f).2 in
-    omega (arith, one, other, point)
+apart-from actor n ts j k x y e f same point = grind (arith, injection-of)
 
 apart-block : (n : ℕ) (ts : List Target) (c : Bool) → AreApart (cond c (injections_from (By n) 0 ts) [])
-apart-block n ts true = apart-from (By n) 0 ts
-apart-block n ts false = λ j k x y e f same point. absurd (none-some x e)
+apart-block n ts t1 = grind (arith, apart-from, none-some)
 
 number_of : Actor → ℕ
 number_of (By q) = q
@@ -202,8 +155,7 @@ number_of ByTarget = 0
 
 block-actor : (n : ℕ) (ts : List Target) (c : Bool) (k : ℕ) (x : Injection) → slice_get (cond c (injections_from (By n) 0 ts) []) k ≡ Some x
     → x.actor ≡ By n
-block-actor n ts true k x e = ap (λ i. i.actor) (injection-of (By n) 0 ts k x e).2
-block-actor n ts false k x e = absurd (none-some x e)
+block-actor n ts t1 k x e = grind (arith, injection-of, none-some)
 
 pub apart-around : (test : InterceptorDecl → Bool) (n : ℕ) (around : List Around) → AreApart (injections_around test n around)
 unfolding number_of
@@ -267,10 +219,7 @@ no-fire-around e = absurd (omega (arith, e))
 
 allowed-around : (place : Place) (part : Part) → IsIntercepted place
     → ((flag : ℕ) → Has part.promise flag → bit_and (around_at place) flag ≡ flag) → IsAllowedAt place part
-allowed-around places.Pre part is kept = record {
-  calls_nothing = λ has. no-call-around (kept flags.call has);
-  fires_nothing = λ has. no-fire-around (kept flags.fire has);
-}
+allowed-around places.Pre part is kept = grind (arith, no-call-around, no-fire-around)
 allowed-around (places.Disposer b) part is kept = absurd is
 allowed-around (places.Observer o) part is kept = tt
 allowed-around other part is kept = tt
@@ -285,10 +234,7 @@ staged-body ds book i other = refl
 interceptor-there : (ds : List Decl) (book : List Promised) (q : ℕ) (i : InterceptorDecl) → slice_get (in_order ds) q ≡ Some i
     → interceptor_at (scene_of ds book) q ≡ Some (staged_interceptor ds book (i, targets ds i.points))
 unfolding scene_of around_of
-interceptor-there ds book q i at =
-    let made = staged_interceptor ds book in
-    slice_get-map made (map (with_targets ds) (in_order ds)) q
-    ∙ ap (option_map made) (slice_get-map (with_targets ds) (in_order ds) q ∙ ap (option_map (with_targets ds)) at)
+interceptor-there ds book q i at = grind (arith, slice_get-map)
 
 some-part : (o : Option PartDecl) → is_some o ≡ true → (part : PartDecl) × (o ≡ Some part)
 some-part None e = absurd (false≢true e)

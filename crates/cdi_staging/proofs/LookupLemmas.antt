@@ -5,8 +5,7 @@ use Rattle.cdi_scene.specs.declared.scene.Form.{Form}
 use Rattle.cdi_scene.specs.declared.place.Place.TheVariants as places
 use Rattle.cdi_scene.specs.declared.scene.Form.TheVariants as forms
 use Rattle.cdi_staging.proofs.ChosenLemmas.{chosen-offered, managed_in, reached}
-use Rattle.cdi_staging.proofs.PartLemmas.{method-there}
-use Rattle.cdi_staging.proofs.SoundLemmas.{place_in, product_in}
+use Rattle.cdi_staging.proofs.{PartLemmas.method-there, SoundLemmas.place_in, SoundLemmas.product_in}
 use Rattle.cdi_staging.specs.{Lookups.ChosenStands, Lookups.ChosenHasMethods, Sites.managed_class}
 
 pub chosen-stands : ChosenStands

@@ -3,7 +3,7 @@ use Rattle.cdi_staging.proofs.Common.{◌≡◌, ℕ, Bool, true, false, List, m
 use Rattle.cdi_staging.proofs.Common.{AreDistinct, BeanDecl, Decl, ObserverDecl, cond, length, same_Some, ◌&&◌, unwrap_or, Qual, same_text}
 use Rattle.cdi_staging.proofs.Common.{Promised, beans, managed, find_bean, Effective, position_of_class, managed_form, scene_of, not}
 use Rattle.cdi_staging.proofs.Common.{is_some, option_map, slice_get-map, none-some, Observer, is_observer, notified_as, observer_declared}
-use Rattle.cdi_staging.proofs.Common.{staged_observer, filter, at-map}
+use Rattle.cdi_staging.proofs.Common.{staged_observer, filter, at-map, arith}
 use Rattle.cdi_scene.specs.Sound.{IsSoundNotified}
 use Rattle.cdi_match.specs.Types.{types_of}
 use Rattle.cdi_observe.specs.Observers.{Observer as Declared, declared_by, enabled_bean, is_before, is_notified, observer_id, observers}
@@ -25,10 +25,7 @@ record IsDeclared (ds : List Decl) (b : Effective) (o : Declared) : Type 0 where
 from-declared : (found_bean : Option BeanDecl) (j : ℕ) (o : Declared) → slice_get (declared_by found_bean) j ≡ Some o
     → (found_bean ≡ Some o.bean) × (slice_get o.bean.observers j ≡ Some o.method)
 from-declared None j o at = absurd (none-some o at)
-from-declared (Some bean) j o at =
-    let made : ObserverDecl → Declared = λ method. record { bean = bean; method = method } in
-    let one = at-map made bean.observers j o at in
-    (ap (λ x. Some x.bean) one.2, subst (λ x. slice_get x.bean.observers j ≡ Some x.method) one.2 one.1)
+from-declared (Some bean) j o at = grind (arith, bean.observers, at-map)
 
 is-declared : (ds : List Decl) (b : Effective) (j : ℕ) (o : Declared) → slice_get (declared_by (enabled_bean ds b)) j ≡ Some o
     → IsDeclared ds b o
@@ -103,8 +100,4 @@ stands ds book o distinct of =
 
 pub notified_stand : NotifiedStand
 unfolding notified_at
-notified_stand ds book t quals distinct k o at =
-    let id = at-map (notified_as ds (beans ds)) (map observer_id (resolved ds (beans ds) t quals)) k o at in
-    let one = at-map observer_id (resolved ds (beans ds) t quals) k id.0 id.1 in
-    let stand = stands ds book one.0 distinct (is-of ds (beans ds) t quals k one.0 one.1) in
-    subst (IsSoundNotified (scene_of ds book)) (ap (notified_as ds (beans ds)) one.2 ∙ id.2) stand
+notified_stand ds book t quals distinct k o at = grind (arith, at-map, stands, is-of)

@@ -13,8 +13,7 @@ use Rattle.cdi_bodies.specs.declared.promise.Promise.{Promise}
 use Rattle.cdi_scene.specs.Sound.{AreObservers, IsInBook, IsSoundSite}
 use Rattle.cdi_subjects.specs.Sites.{has_method, methods_in}
 use Rattle.cdi_staging.proofs.BesideLemmas.{of-find, no-position, find-append}
-use Rattle.cdi_staging.proofs.ChosenLemmas.{Reached, chosen-offered, reached}
-use Rattle.cdi_staging.proofs.NotifiedLemmas.{notified_stand}
+use Rattle.cdi_staging.proofs.{ChosenLemmas.Reached, ChosenLemmas.chosen-offered, ChosenLemmas.reached, NotifiedLemmas.notified_stand}
 use Rattle.cdi_staging.specs.Sites.{Sight, nowhere, class_with, method_declared, site_at, site_among, target_at}
 use Rattle.cdi_staging.specs.Faultless.{IsSatisfied, IsLed}
 
@@ -125,10 +124,7 @@ method-there ds book id name r via has None e =
       ap (slice_get (map made m.decl.methods)) place ∙ slice_get-map made m.decl.methods at.place
           ∙ ap (option_map made) at.there,
     )
-method-there ds book id name r via has (Some p) e =
-    let product = r.of_product p e in
-    subst (λ form. HasMethod (scene_of ds book)
-    (record { via = via; bean = position_of_bean (beans ds) id; method = 0 }) form) (sym product.1) tt
+method-there ds book id name r via has (Some p) e = grind (arith, r.of_product)
 
 -- what is chosen for a satisfied injection point stands in the scene
 pub point-reached : (ds : List Decl) (book : List Promised) (point : PointDecl) → AreDistinct ds → (sat : IsSatisfied ds point)

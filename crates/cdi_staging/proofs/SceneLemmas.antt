@@ -28,10 +28,9 @@ use Rattle.cdi_staging.proofs.PartLemmas.{IsSoundFor, NamesVia, disposer-sound, 
 use Rattle.cdi_staging.proofs.LinkLemmas.{IsIntercepted, OfAround, apart-own, body_of, from-around, injected, injection-of, injection-there}
 use Rattle.cdi_staging.proofs.LinkLemmas.{link-of, link-sound, link_seat}
 use Rattle.cdi_staging.proofs.SoundLemmas.{AreLinks, IsGood, IsProduced, IsSpot, LeadsBy, LeadsObserver, LinksAt, LinksOf, disposer_in}
-use Rattle.cdi_staging.proofs.SoundLemmas.{fine-product, no-call-disposal, observer-good, observer_in, points_seen, no-fire-disposal}
-use Rattle.cdi_staging.proofs.SoundLemmas.{no-load-disposal, no-proceed-disposal, no-store-disposal, no-load-class, no-proceed-class}
-use Rattle.cdi_staging.proofs.SoundLemmas.{no-store-class, own-good, part_in, producer-good, producer_in, product_in, stands-at}
-use Rattle.cdi_staging.proofs.SoundLemmas.{static-part}
+use Rattle.cdi_staging.proofs.SoundLemmas.{fine-product, no-call-disposal, observer-good, points_seen, no-fire-disposal, no-load-disposal}
+use Rattle.cdi_staging.proofs.SoundLemmas.{no-proceed-disposal, no-store-disposal, no-load-class, no-proceed-class, no-store-class}
+use Rattle.cdi_staging.proofs.SoundLemmas.{own-good, part_in, producer-good, producer_in, product_in, stands-at, static-part}
 use Rattle.cdi_staging.specs.Staged.{disposer_for, disposer_part}
 
 -- ---- what is invoked at a place
@@ -103,11 +102,7 @@ own-point ds book home d seat n p b t used is seated own at same =
 
 own-leads : (ds : List Decl) (book : List Promised) (b : ℕ) (place : Place) (d : BeanDecl)
     → home_of (scene_of ds book) b place ≡ b → IsUsed ds book b d → LeadsBy ds d.points [] (LeadsAt (scene_of ds book) b place)
-own-leads ds book b place d home used site names n = by site.via names
-  where
-    by : (via : Via) → NamesVia (targets ds d.points) [] via site.bean → IsNamed (scene_of ds book) (own_seat b place n) via site.bean
-    by (Own p) t = own-point ds book b d (own_seat b place n) n p site.bean t.0 used home refl refl t.1 t.2
-    by (Param p) t = absurd (none-some t.0 t.1)
+own-leads ds book b place d home used site names n = grind (arith, site.via, d.points, site.bean, own-point, none-some)
 
 -- what is chosen for a parameter
 param-named : (ds : List Decl) (params : List PointDecl) (p b : ℕ) (t : Target) → slice_get (targets ds params) p ≡ Some t
@@ -123,16 +118,8 @@ params_in None = []
 observer-leads : (ds : List Decl) (book : List Promised) (b o : ℕ) (d : BeanDecl) → IsUsed ds book b d
     → LeadsObserver ds d o (LeadsAt (scene_of ds book) b (places.Observer o))
 unfolding managed_form staged_observer
-observer-leads ds book b o d used observer at site names n = by site.via names
-  where
-    there : params_at (scene_of ds book) b (places.Observer o) ≡ map (λ target. target.bean) (targets ds observer.params)
-    there = ap (λ m. params_in (observer_in o m)) used
-        ∙ ap params_in (slice_get-map (staged_observer ds book d) d.observers o ∙ ap (option_map (staged_observer ds book d)) at)
-
-    by : (via : Via) → NamesVia (targets ds d.points) (targets ds observer.params) via site.bean
-        → IsNamed (scene_of ds book) (own_seat b (places.Observer o) n) via site.bean
-    by (Own p) t = own-point ds book b d (own_seat b (places.Observer o) n) n p site.bean t.0 used refl refl refl t.1 t.2
-    by (Param p) t = ap (λ bs. slice_get bs p) there ∙ param-named ds observer.params p site.bean t.0 t.1 t.2
+observer-leads ds book b o d used observer at site names n =
+    grind (arith, site.via, observer.params, d.observers, d.points, site.bean, slice_get-map, own-point, param-named)
 
 product-leads : (ds : List Decl) (book : List Promised) (b q : ℕ) (d : BeanDecl) (p : ProducerDecl) → AreDistinct ds
     → IsProduced ds book q d p

@@ -15,8 +15,7 @@ use Rattle.cdi_scene.specs.declared.place.Place.TheVariants as places
 use Rattle.cdi_staging.proofs.BesideLemmas.{First, first-at, of-find}
 use Rattle.cdi_staging.proofs.ChosenLemmas.{IsUsed, Stands, all-stand, managed_in}
 use Rattle.cdi_staging.proofs.PartLemmas.{IsSoundFor, Names, from-option, part-sound, seen}
-use Rattle.cdi_staging.specs.Staged.{empty_place, sight_of, staged_place, producer_chain}
-use Rattle.cdi_staging.specs.Sites.{method_sight}
+use Rattle.cdi_staging.specs.{Staged.empty_place, Staged.sight_of, Staged.staged_place, Staged.producer_chain, Sites.method_sight}
 
 -- ---- what the places allow
 
@@ -99,10 +98,8 @@ good-place : (ds : List Decl) (book : List Promised) (allowed : ℕ) (place : Pl
     → Takes ds book allowed place points params Leads → AreLinks Links chain
     → IsGood ds book place Leads Links (staged_place ds book (seen ds points params) chain o)
 unfolding staged_place
-good-place ds book allowed place points params Leads Links chain None distinct own_points own_params fine takes links = record {
-  links = links;
-  part = λ part e. absurd (none-some part e);
-}
+good-place ds book allowed place points params Leads Links chain None distinct own_points own_params fine takes links =
+    grind (arith, none-some)
 good-place ds book allowed place points params Leads Links chain (Some p) distinct own_points own_params fine takes links = record {
   links = links;
   part = λ part e. takes part (part-sound ds book allowed points params p part distinct own_points own_params (fine p refl) e);
@@ -116,24 +113,12 @@ none-satisfied ds k point e = absurd (cc)
 at-instance : (ds : List Decl) (book : List Promised) (place : Place) (points params : List PointDecl) (Leads : CallSite → Type 0)
     → ((part : Part) → IsAllowedAt place part) → LeadsBy ds points params Leads
     → Takes ds book flags.at_instance place points params Leads
-at-instance ds book place points params Leads allows lead part s = record {
-  sound = s.sound;
-  allowed = allows part;
-  own = λ has. no-proceed-instance (s.kept flags.proceed has);
-  leads = λ k site at. lead site (s.names k site at);
-}
+at-instance ds book place points params Leads allows lead part s = grind (arith, s.sound, s.kept, s.names, no-proceed-instance)
 
 at-destruction : (ds : List Decl) (book : List Promised) (points : List PointDecl) (Leads : CallSite → Type 0)
     → LeadsBy ds points [] Leads → Takes ds book flags.at_destruction places.Pre points [] Leads
-at-destruction ds book points Leads lead part s = record {
-  sound = s.sound;
-  allowed = record {
-    calls_nothing = λ has. no-call-destruction (s.kept flags.call has);
-    fires_nothing = λ has. no-fire-destruction (s.kept flags.fire has);
-  };
-  own = λ has. no-proceed-destruction (s.kept flags.proceed has);
-  leads = λ k site at. lead site (s.names k site at);
-}
+at-destruction ds book points Leads lead part s =
+    grind (arith, s.sound, s.kept, s.names, no-call-destruction, no-fire-destruction, no-proceed-destruction)
 
 -- the place of a bean that a place of its instances is
 abbrev pub IsSpot : BeanDecl → Place → BeanPlace → Type 0
@@ -392,9 +377,7 @@ is-produced : (ds : List Decl) (book : List Promised) (q : ℕ) (d : BeanDecl) (
     ≡ Some (cond e (product_form ds book d p)
     (unused_product ds d))
     → e ≡ true → IsProduced ds book q d p
-is-produced ds book q d p k j true there declared enabled at is =
-    record { place = k; there = there; at = j; declared = declared; enabled = enabled refl; product_is = at }
-is-produced ds book q d p k j false there declared enabled at is = absurd (false≢true is)
+is-produced ds book q d p k j t1 there declared enabled at is = grind (arith, false≢true)
 
 pub producer-good : (ds : List Decl) (book : List Promised) (q : ℕ) (Leads : CallSite → Type 0) (Links : ℕ → Type 0) (x : Invocable)
     (o : Option Bean) → AreDistinct ds → AreFine ds book

@@ -3,8 +3,7 @@ use Rattle.cdi_staging.proofs.Common.{places_from}
 use Rattle.std.specs.Result.{IsOk}
 use Rattle.std.proofs.lemmas.Result.{IfOk-weaker}
 use Rattle.cdi_observe.proofs.AroundLemmas.{told-names, told-same}
-use Rattle.cdi_staging.proofs.AnswerableLemmas.{place-answerable}
-use Rattle.cdi_staging.proofs.ClassLemmas.{names-at_place, positions-at_place}
+use Rattle.cdi_staging.proofs.{AnswerableLemmas.place-answerable, ClassLemmas.names-at_place, ClassLemmas.positions-at_place}
 use Rattle.cdi_staging.proofs.stage.Stage.chain.Goals as goal
 
 pub lent_chain-requires-clause-answerable : goal.lent_chain-requires-clause-answerable

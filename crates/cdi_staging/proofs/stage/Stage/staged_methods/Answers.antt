@@ -1,6 +1,5 @@
 use Rattle.cdi_staging.proofs.Common.{Contains, sym, subst}
-use Rattle.cdi_staging.proofs.AnswerableLemmas.{bean-fired}
-use Rattle.cdi_staging.proofs.ClassLemmas.{has-method}
+use Rattle.cdi_staging.proofs.{AnswerableLemmas.bean-fired, ClassLemmas.has-method}
 use Rattle.cdi_staging.proofs.stage.Stage.staged_methods.Goals as goal
 
 pub staged_place-requires-clause-place : goal.staged_place-requires-clause-place
