@@ -1,7 +1,7 @@
 -- What a look-up or a call aims at stands in the scene.
 use Rattle.cdi_container.proofs.Common.{◌≡◌, ℕ, List, Bool, true, false, Option, None, Some, map, refl, subst, sym, Result, Ok, Err}
 use Rattle.cdi_container.proofs.Common.{if◌then◌else◌, AreDistinct, Decl, Qual, Promised, beans, chosen, Choice, notified, ObserverId}
-use Rattle.cdi_container.proofs.Common.{scene_of, asked_for}
+use Rattle.cdi_container.proofs.Common.{scene_of, asked_for, arith}
 use Rattle.cdi_model.specs.declared.refusal.Refusal.TheVariants.{NoMethod}
 use Rattle.cdi_run.specs.declared.roots.Purpose.TheVariants as purposes
 use Rattle.cdi_effective.specs.declared.records.BeanId.{BeanId}
@@ -18,9 +18,7 @@ ok_same x y r h k = cc
 module _ (ds : List Decl) (book : List Promised) (t : List ℕ) (quals : List Qual) (distinct : AreDistinct ds) where
   stands_at : (id : BeanId) (message : Option Message) (aim : Aim) → chosen ds (beans ds) t quals ≡ One id
       → aim_with (position_of_bean (beans ds) id) (purpose_of ds id message) ≡ Ok aim → StandsIn (scene_of ds book) aim
-  stands_at id None aim one is =
-      subst (StandsIn (scene_of ds book)) (ok_same _ _ _ refl is)
-      (record { there = chosen-stands ds book t quals id distinct one; usable = tt })
+  stands_at id None aim one is = grind (arith, ok_same, chosen-stands)
   stands_at id (Some message) aim one is = by (has_method ds id message.method) refl is
     where
       by : (b : Bool) → has_method ds id message.method ≡ b

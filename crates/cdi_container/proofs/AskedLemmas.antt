@@ -1,10 +1,9 @@
 -- What calls leave of a deployment that evaluate keys.
 use Rattle.cdi_container.proofs.Common.{◌≡◌, ℕ, List, Bool, true, false, refl, subst, sym, Result, Ok, Err, if◌then◌else◌, Decl, Qual}
 use Rattle.cdi_container.proofs.Common.{Promised, ◌≢◌, ◌&&◌, [], ◌∷◌, length, ap, ◌∙◌, AllPairs, IsErrAnd, list_all, Error, KnownAreWanted}
-use Rattle.cdi_container.proofs.Common.{known_of, kept_in, knows, after_key, evaluated, EvaluatesSome, Key, EventKey, choice_key, has_key}
-use Rattle.cdi_container.proofs.Common.{with_key, wanted, is_wanted, same_key-decides, has-wanted, are_known, faults, can_be_fired}
-use Rattle.cdi_container.proofs.Common.{keys_of_event, keys_of_use, known_with, work_with, IsInOrder, Deployed, Evaluates, IsAsked}
-use Rattle.cdi_container.proofs.Common.{IsAskedSome}
+use Rattle.cdi_container.proofs.Common.{kept_in, knows, after_key, evaluated, EvaluatesSome, Key, EventKey, choice_key, has_key, with_key}
+use Rattle.cdi_container.proofs.Common.{wanted, is_wanted, same_key-decides, has-wanted, are_known, faults, can_be_fired, keys_of_event}
+use Rattle.cdi_container.proofs.Common.{keys_of_use, IsInOrder, Deployed, Evaluates, IsAsked, IsAskedSome, arith}
 use Rattle.std.proofs.Common.{inl, inr, ◌==◌, ◌<◌, get_or}
 use Rattle.std.specs.List.{IsDistinct}
 use Rattle.std.proofs.lemmas.{Bool.eqb-true, List.Sums.AllPass-from_list_all, List.Sums.list_all-from_AllPass}
@@ -48,11 +47,7 @@ run-faulty : (ds : List Decl) (count : ℕ) (known : Bool) (key : Key) → (coun
 run-faulty ds count known key h = rw h refl
 
 run-unknown : (ds : List Decl) (count : ℕ) (known : Bool) (key : Key) → known ≡ false → keys_of_run ds count known key ≡ wanted ds
-run-unknown ds count known key h = rw h (by (count == 0))
-  where
-    by : (b : Bool) → (if b && false then with_key (wanted ds) key else wanted ds) ≡ wanted ds
-    by true = refl
-    by false = refl
+run-unknown ds count known key h = grind arith
 
 run-own : (ds : List Decl) (count : ℕ) (known : Bool) (key : Key) → count ≡ 0 → known ≡ true
     → keys_of_run ds count known key ≡ with_key (wanted ds) key
@@ -62,18 +57,7 @@ run-own ds count known key none h = rw none (rw h refl)
 
 pub asked_by : (old new : Live) (book : List Promised) (wired after : Bool) (keys : List Key) → new.decls ≡ old.decls → new.counts ≡ old.counts
     → KnowsAfter keys old new → (wired ≡ true → after ≡ true) → IsAsked keys (deployed_on old book wired) (deployed_on new book after)
-asked_by old new book wired after keys same counted knows stays = record {
-  rest = λ j. record {
-    decls = same j;
-    counts = counted j;
-    known = knows.known j;
-    work = knows.work j;
-    staged = new.staged;
-    book = book;
-    is_wired = after;
-  };
-  wired = stays;
-}
+asked_by old new book wired after keys same counted knows stays = grind (arith, knows.known, knows.work, new.staged)
 
 pub asks_one : (old new : Live) (book : List Promised) (wired : Bool) (key : Key) → new.decls ≡ old.decls → new.counts ≡ old.counts
     → KnownAreWanted old → kept_in new ≡ after_key old.decls key (kept_in old)
@@ -102,55 +86,25 @@ asks_wanted old new book wired after same counted within are stays =
 pub asks_some : (old new : Live) (book : List Promised) (wired : Bool) → new.decls ≡ old.decls → new.counts ≡ old.counts
     → KnownAreWanted old → EvaluatesSome old.decls (kept_in old) (kept_in new)
     → IsAskedSome (wanted old.decls) (deployed_on old book wired) (deployed_on new book wired)
-asks_some old new book wired same counted within some = record {
-  some = some.keys;
-  among = list_all-from_AllPass (has_key (wanted old.decls)) some.keys (λ i d lt. has-wanted old.decls _ ∙ some.wanted i d lt);
-  apart = some.apart;
-  are = asked_by old new book wired wired some.keys same counted
-      (asked_evaluated old new some.keys same within some.wanted some.apart some.are) (λ h. h);
-}
+asks_some old new book wired same counted within some =
+    grind (arith, some.keys, old.decls, some.wanted, some.apart, some.are, list_all-from_AllPass, has-wanted, asked_by, asked_evaluated)
 
 -- all is known already
 pub asks_nothing_more : (live : Live) (book : List Promised) (wired : Bool) → KnownAreWanted live
     → ((key : Key) → is_wanted live.decls key ≡ true → knows live key ≡ true)
     → IsAsked (wanted live.decls) (deployed_on live book wired) (deployed_on live book wired)
 asks_nothing_more live book wired within all =
-    asked_by live live book wired wired (wanted live.decls) refl refl (record {
-      known = all-there ∙ sym (known_with-wanted live.decls (known_of live) (in_order live within));
-      work = sym (none-unknown live.decls (known_of live) (in_order live within) live.work
-          (λ key h. ap (λ f. f key) (same-knows live within) ∙ all key h));
-    }) (λ h. h)
-  where
-    all-there : known_of live ≡ wanted live.decls
-    all-there = filter-all (knows live) (wanted live.decls) (λ k h. all k (sym (has-wanted live.decls k) ∙ h))
+    grind (arith, live.decls, live.work, asked_by, known_with-wanted, in_order, none-unknown, same-knows, filter-all, has-wanted)
 
 -- ---- the keys of a run
 
 pub then_asks : (d e f : Deployed) (key : Key) → IsInOrder d.decls d.known → IsAsked (wanted d.decls) d e → IsAsked (key ∷ []) e f
     → IsAsked (with_key (wanted d.decls) key) d f
-then_asks d e f key ordered first own = record {
-  rest = own.rest
-      ∙ ap (λ (x : Deployed). record x {
-        known = known_with x.decls x.known (key ∷ []);
-        work = work_with x.known (key ∷ []) x.work;
-        staged = f.staged;
-        is_wired = f.is_wired;
-      }) first.rest
-      ∙ (λ j. record d {
-        known = known-then d.decls d.known ordered key j;
-        work = work-then d.decls d.known ordered key d.work j;
-        staged = f.staged;
-        is_wired = f.is_wired;
-      });
-  wired = λ h. own.wired (first.wired h);
-}
+then_asks d e f key ordered first own =
+    grind (arith, own.rest, f.staged, f.is_wired, first.rest, d.decls, d.known, d.work, own.wired, first.wired, known-then, work-then)
 
 not-none : (n : ℕ) → n ≢ 0 → (n == 0) ≡ false
-not-none n some = by (n == 0) refl
-  where
-    by : (b : Bool) → (n == 0) ≡ b → (n == 0) ≡ false
-    by true h = absurd (some (eqb-true n 0 h))
-    by false h = h
+not-none n some = grind (arith, eqb-true)
 
 -- where a run does not come to its own key
 abbrev asked_if : List Key → List Key → Deployed → Deployed → Type 0

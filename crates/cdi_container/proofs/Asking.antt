@@ -2,17 +2,16 @@
 use Rattle.cdi_container.proofs.Common.{◌≡◌, ℕ, List, Option, None, refl, subst, sym, Result, Ok, Err, Qual, Choice, ObserverId, scene_of}
 use Rattle.cdi_container.proofs.Common.{[], ◌∷◌, ap, ◌∙◌, IsErrAnd, false≢true, Error, Key, Deployed, Evaluates, IsAsked, IsAskedSome}
 use Rattle.cdi_container.proofs.Common.{AllocError, Answers, Outcome, Refusal, cleared, LegalRun, Moment, beginning, Scene, ChainKey}
-use Rattle.cdi_container.proofs.Common.{chain_of, Names, Report, run_by, alone, State, AsksSome, RunAnswers, RunsFrom, asked, emptied}
-use Rattle.cdi_container.proofs.Common.{evaluates, left_by, untold, IsRefusedBy, trace_names, Given}
+use Rattle.cdi_container.proofs.Common.{chain_of, Names, Report, run_by, State, AsksSome, RunAnswers, RunsFrom, asked, emptied, evaluates}
+use Rattle.cdi_container.proofs.Common.{left_by, untold, IsRefusedBy, trace_names, Given, arith}
 use Rattle.std.specs.{Result.IsErr, declared.alloc.Global.Global, declared.vec.Vec.Vec}
 use Rattle.cdi_model.specs.declared.place.BeanPlace.{BeanPlace}
 use Rattle.cdi_model.specs.declared.refusal.Error.TheVariants as errors
 use Rattle.cdi_legal.specs.LegalRun.{Command as Run}
 use Rattle.cdi_faults.specs.declared.fault.Fault.{Fault}
-use Rattle.cdi_container.proofs.AskedLemmas.{apart-none}
-use Rattle.cdi_container.proofs.Ending.{standing_at}
+use Rattle.cdi_container.proofs.{AskedLemmas.apart-none, Ending.standing_at}
 use Rattle.cdi_container.specs.Seen.{ChainStep, ChooseStep, ObserversStep, EvaluateStep, ReportStep, unplayed}
-use Rattle.cdi_container.specs.{History.LeavesRun, History.refusal_in, Known.keys_of_chain}
+use Rattle.cdi_container.specs.{History.LeavesRun}
 
 -- ---- questions and reports
 
@@ -26,12 +25,7 @@ asked_left d e before names m old new keys is asks left =
 -- some were, and then memory ran out
 pub asked_some : (d e : Deployed) (before : Option Names) (m : Moment) (old : State) (keys : List Key)
     → standing_at d (trace_names d before) m ≡ old → IsAskedSome keys d e → AsksSome old keys (standing_at e (trace_names e before) m)
-asked_some d e before m old keys is asks = record {
-  some = asks.some;
-  among = asks.among;
-  apart = asks.apart;
-  are = ap (λ (x : Deployed). standing_at x (trace_names x before) m) asks.are.rest ∙ ap (λ (s : State). asked s asks.some) is;
-}
+asked_some d e before m old keys is asks = grind (arith, asks.some, asks.among, asks.apart, asks.are.rest)
 
 -- nothing is changed
 pub same_state : (d e : Deployed) (before : Option Names) (m : Moment) (old : State) → standing_at d (trace_names d before) m ≡ old
@@ -70,23 +64,12 @@ failure X error = Err error
 
 pub chain_told : (old new : State) (bean : List ℕ) (place : BeanPlace) (names : List (List ℕ)) → chain_of old.decls bean place ≡ Ok names
     → new ≡ untold (asked old (ChainKey bean place ∷ [])) → ChainStep old bean place (Ok names) new
-chain_told old new bean place names around left = (
-  ap (λ r. alone (refusal_in r)) around,
-  record {
-    names = names;
-    around = around;
-    given = refl;
-    rest = subst (λ r. new ≡ untold (asked old (keys_of_chain r (ChainKey bean place)))) (sym around) left;
-  },
-)
+chain_told old new bean place names around left = grind arith
 
 pub chain_left : (old new : State) (bean : List ℕ) (place : BeanPlace) (error : Error)
     → Answers (failure (List (List ℕ)) error) (chain_of old.decls bean place) → new ≡ left_by error old → ChainStep old bean place (Err error) new
 chain_left old new bean place errors.OutOfMemory said left = record { left = old; asks = asks_none old _; rest = left }
-chain_left old new bean place (errors.Refused refusal) said left = (
-  ap (λ r. alone (refusal_in r)) said,
-  subst (λ r. new ≡ untold (asked old (keys_of_chain r (ChainKey bean place)))) (sym said) left,
-)
+chain_left old new bean place (errors.Refused refusal) said left = grind arith
 
 -- ---- runs
 
@@ -95,16 +78,7 @@ pub ran : (d e : Deployed) (s : Scene) (names : Names) (m begun n : Moment) (key
     (outcome : Outcome) → IsAsked keys d e → begun ≡ beginning m.standing → s ≡ scene_of e.decls e.book → begins ≡ Ok run
     → LegalRun s run begun.standing n.trace outcome n.standing
     → RunsFrom (asked (standing_at d names m) keys) begins (Given outcome) (standing_at e (trace_names e None) n)
-ran d e s names m begun n keys begins run outcome asks began is given legal = record {
-  run = run;
-  begins = given;
-  outcome = outcome;
-  given = refl;
-  legal = subst (λ (x : Deployed). LegalRun (scene_of x.decls x.book) run m.standing n.trace outcome n.standing) asks.rest
-      (subst (λ (c : Scene). LegalRun c run m.standing n.trace outcome n.standing) is
-      (subst (λ (x : Moment). LegalRun s run x.standing n.trace outcome n.standing) began legal));
-  rest = ap (λ (x : Deployed). standing_at x (trace_names x None) n) asks.rest;
-}
+ran d e s names m begun n keys begins run outcome asks began is given legal = grind (arith, m.standing, n.trace, n.standing, asks.rest)
 
 -- a run that did not begin, or found no memory
 pub leaves_run : (d e : Deployed) (names told : Names) (m n : Moment) (keys : List Key) → IsAskedSome keys d e

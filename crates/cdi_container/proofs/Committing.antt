@@ -1,16 +1,15 @@
 -- What is staged is taken over behind the end of both contexts.
-use Rattle.cdi_container.proofs.Common.{◌≡◌, List, Bool, true, false, Option, None, Some, refl, subst, sym, Result, Ok, Err, if◌then◌else◌}
-use Rattle.cdi_container.proofs.Common.{Decl, Promised, scene_of, [], ◌∷◌, ap, ◌∙◌, Error, KnownAreWanted, known_of, knows, Key, wanted}
-use Rattle.cdi_container.proofs.Common.{Deployed, IfOk, Moment, Names, State, trace_names, Drafted, filter, IfSome, IsEdited, Staged}
-use Rattle.cdi_container.proofs.Common.{Commits, CommitsTo, AreShort, LegalEnd, Entry, names_of, text_of_entries, IsWiringOf, Wiring}
-use Rattle.cdi_container.proofs.Common.{is_sound, redeployed, ℕ}
+use Rattle.cdi_container.proofs.Common.{◌≡◌, List, Bool, false, Option, None, Some, refl, sym, Result, Ok, Err, if◌then◌else◌, Decl}
+use Rattle.cdi_container.proofs.Common.{Promised, scene_of, [], ◌∷◌, ap, ◌∙◌, Error, KnownAreWanted, known_of, knows, Key, wanted, Deployed}
+use Rattle.cdi_container.proofs.Common.{IfOk, Moment, Names, State, trace_names, Drafted, filter, IfSome, IsEdited, Staged, Commits}
+use Rattle.cdi_container.proofs.Common.{CommitsTo, AreShort, LegalEnd, Entry, names_of, text_of_entries, IsWiringOf, Wiring, is_sound}
+use Rattle.cdi_container.proofs.Common.{redeployed, ℕ, arith}
 use Rattle.std.specs.Prelude.{unwrap_or}
 use Rattle.cdi_model.specs.declared.edit.Edit.{Edit as Change}
 use Rattle.cdi_seen.specs.Touched.{still_known}
 use Rattle.cdi_live.specs.State.{State as Live, TakesOver}
 use Rattle.cdi_wiring.specs.declared.verdict.Wiring.TheVariants as wirings
-use Rattle.cdi_container.proofs.Ending.{standing_at}
-use Rattle.cdi_container.proofs.KnownLemmas.{same-knows}
+use Rattle.cdi_container.proofs.{Ending.standing_at, KnownLemmas.same-knows}
 use Rattle.cdi_container.specs.Wired.{names_if, names_in, redeployed_to, staged_by, with_staged}
 use Rattle.cdi_container.specs.{Editing.drafted_by, History.Redeploys, Known.known_still}
 
@@ -35,11 +34,7 @@ names_wired ds book (Some (wirings.Sound wired)) h = ap Some h.names
 -- short lists stay short
 pub committed_short : (old new : Live) → AreShort old.decls → IfSome old.staged (λ next. AreShort next.decls) → Commits old new
     → AreShort new.decls
-committed_short old new short staged is = by old.staged staged is
-  where
-    by : (next : Option Staged) → IfSome next (λ s. AreShort s.decls) → CommitsTo old next new → AreShort new.decls
-    by None h e = subst (λ (l : Live). AreShort l.decls) (sym e) short
-    by (Some next) h e = subst AreShort (sym e.decls) h
+committed_short old new short staged is = grind (arith, old.staged, new.decls)
 
 -- the known keys are those that were known, are still wanted and are not touched
 still-known : (old new : Live) (next : Staged) → KnownAreWanted old → TakesOver old next new
@@ -86,9 +81,7 @@ commits old new book wired within is = by old.staged refl is
 -- what is told by names from before, if there are any, and is nothing if there are none
 told_before : (b : Bool) (before now : Names) (trace : List Entry) → (b ≡ false → trace ≡ [])
     → text_of_entries (unwrap_or (if b then Some before else None) now) trace ≡ text_of_entries before trace
-told_before true before now trace none = refl
-told_before false before now trace none =
-    subst (λ (t : List Entry). text_of_entries now t ≡ text_of_entries before t) (sym (none refl)) refl
+told_before t1 before now trace none = grind arith
 
 -- what these declarations stage
 abbrev next_on : Deployed → Drafted → Staged
@@ -114,15 +107,4 @@ pub redeploys : (d e f : Deployed) (before told : Option Names) (old : State) (d
     → f ≡ redeployed e → told ≡ names_if e
     → Redeploys old (staged_by old.decls old.counts draft) (standing_at f (trace_names f told) n)
 redeploys d e f before told old draft m n was staged legal untraced is names =
-    let legal_here : LegalEnd (scene_of d.decls d.book) m.standing n.trace n.standing =
-    subst (λ (x : Deployed). LegalEnd (scene_of x.decls x.book) m.standing n.trace n.standing) staged legal in
-    let untraced_here : d.is_wired ≡ false → n.trace ≡ [] =
-    subst (λ (x : Deployed). x.is_wired ≡ false → n.trace ≡ []) staged untraced in
-    let here = redeploys_from d (trace_names d before) draft m n legal_here untraced_here in
-    let next : f ≡ redeployed (staged_on d draft) = is ∙ ap redeployed staged in
-    let told_here : told ≡ names_if d = names ∙ ap names_if staged in
-    subst (λ (s : State). Redeploys s (staged_by s.decls s.counts draft) (standing_at f (trace_names f told) n)) was
-    (subst (λ (x : Deployed). Redeploys (standing_at d (trace_names d before) m) (next_on d draft) (standing_at x (trace_names x told) n))
-    (sym next)
-    (subst (λ (t : Option Names). Redeploys (standing_at d (trace_names d before) m) (next_on d draft)
-    (standing_at (redeployed (staged_on d draft)) (trace_names (redeployed (staged_on d draft)) t) n)) (sym told_here) here))
+    grind (arith, d.decls, d.book, m.standing, n.trace, n.standing, d.is_wired, redeploys_from)

@@ -1,6 +1,6 @@
 -- Where no instance is live, the end of a request and a stop are legal with no entry.
-use Rattle.cdi_container.proofs.Common.{◌≡◌, true, None, refl, subst, sym, [], Deployed, Moment, beginning, Scene, Names, State, LegalEnd}
-use Rattle.cdi_container.proofs.Common.{names_of, text_of_entries, closed, Done, EndsRequest, scene}
+use Rattle.cdi_container.proofs.Common.{◌≡◌, true, None, subst, sym, [], Deployed, Moment, beginning, Scene, Names, State, LegalEnd}
+use Rattle.cdi_container.proofs.Common.{names_of, text_of_entries, closed, Done, EndsRequest, arith}
 use Rattle.cdi_legal.proofs.Commands.{empty_ends}
 use Rattle.cdi_container.specs.History.{refusal_of_end}
 
@@ -30,14 +30,9 @@ ends_nothing s m n none shut =
 
 pub ends_no_request : (d : Deployed) (names : Names) (old : State) (m n : Moment) → standing_at d names m ≡ old → m.standing.live ≡ []
     → IsClosed m n → EndsRequest old Done (standing_at d (names_of d.decls) n)
-ends_no_request d names old m n is none shut =
-    subst (λ s. EndsRequest s Done (standing_at d (names_of d.decls) n)) is
-    (subst (λ x. EndsRequest (standing_at d names m) Done (standing_at d (names_of d.decls) x)) (sym shut)
-    (record { done = refl; legal = empty_ends.request_end (scene (standing_at d names m)) m.standing none; rest = refl }))
+ends_no_request d names old m n is none shut = grind (arith, d.decls, m.standing, empty_ends.request_end)
 
 -- the end of a request that is active is not refused
 pub has_request : (d : Deployed) (names : Names) (old : State) (m : Moment) → standing_at d names m ≡ old
     → m.standing.active ≡ true → refusal_of_end old.standing ≡ None
-has_request d names old m is active =
-    let here : refusal_of_end m.standing ≡ None = rw active refl in
-    subst (λ s. refusal_of_end s.standing ≡ None) is here
+has_request d names old m is active = grind (arith, m.standing)

@@ -1,14 +1,14 @@
 -- The declarations and the counts behind a legal history are what its accepted edits make.
-use Rattle.cdi_container.proofs.Common.{◌≡◌, List, Bool, true, false, refl, subst, sym, Result, Ok, Err, if◌then◌else◌, [], ◌∷◌, ap, ◌∙◌}
-use Rattle.cdi_container.proofs.Common.{AllocError, Report, State, asked, emptied, evaluates, Given, edited_all, changes_of, changes_of_all}
-use Rattle.cdi_container.proofs.Common.{Done, Command, Batch, Chain, LookUp, Call, Fire, BeginRequest, EndRequest, Stop, Unreadable, Answer}
-use Rattle.cdi_container.proofs.Common.{Chosen, Intercepted, Observed, Reported, Counted, Worked, Refused, History, Acts, EditsFrom}
-use Rattle.cdi_container.proofs.Common.{LegalAnswer, LegalHistory, runs}
+use Rattle.cdi_container.proofs.Common.{◌≡◌, List, Bool, subst, sym, Result, Ok, Err, if◌then◌else◌, [], ◌∷◌, ap, ◌∙◌, AllocError, Report}
+use Rattle.cdi_container.proofs.Common.{State, asked, emptied, evaluates, Given, edited_all, Done, Command, Batch, Chain, LookUp, Call}
+use Rattle.cdi_container.proofs.Common.{Fire, BeginRequest, EndRequest, Stop, Unreadable, Answer, Chosen, Intercepted, Observed, Reported}
+use Rattle.cdi_container.proofs.Common.{Counted, Worked, Refused, History, Acts, EditsFrom, LegalAnswer, LegalHistory, runs, arith, Edit}
+use Rattle.cdi_container.proofs.Common.{empty}
 use Rattle.cdi_model.specs.declared.edit.Edit.{Edit as Change}
-use Rattle.cdi_lines.specs.declared.command.Command.TheVariants.{Edit, Choose, Named, Observers}
+use Rattle.cdi_lines.specs.declared.command.Command.TheVariants.{Choose, Named, Observers}
 use Rattle.cdi_lines.specs.declared.command.Command.TheVariants as commands
 use Rattle.cdi_container.proofs.BatchLemmas.{edited_all-append}
-use Rattle.cdi_container.specs.History.{empty, accepted_changes, accepted_edits, RestsOnAcceptedEdits, counts_behind, counts_of}
+use Rattle.cdi_container.specs.History.{accepted_changes, accepted_edits, RestsOnAcceptedEdits, counts_behind, counts_of}
 use Rattle.cdi_container.specs.History.{counts_with, CountsAcceptedEdits}
 
 -- the state after what a command evaluates
@@ -21,12 +21,8 @@ decls_of_edit old new changes h = ap (λ s. s.decls) h.rest
 -- what a command that was carried out leaves is what its edits make
 pub acts_edits : (old new : State) (command : Command) (answer : Answer) → Acts old command answer new
     → new.decls ≡ edited_all old.decls (accepted_changes command (Ok answer))
-acts_edits old new (Edit edit) answer h =
-    subst (λ a. new.decls ≡ edited_all old.decls (accepted_changes (Edit edit) (Ok a))) (sym h.0)
-    (decls_of_edit old new (changes_of edit) h.1)
-acts_edits old new (Batch edits) answer h =
-    subst (λ a. new.decls ≡ edited_all old.decls (accepted_changes (Batch edits) (Ok a))) (sym h.0)
-    (decls_of_edit old new (changes_of_all edits) h.1)
+acts_edits old new (Edit edit) answer h = grind (arith, new.decls, old.decls, h.0, h.1, decls_of_edit)
+acts_edits old new (Batch edits) answer h = grind (arith, new.decls, old.decls, h.0, h.1, decls_of_edit)
 acts_edits old new (Choose t quals) answer h =
     subst (λ a. new.decls ≡ edited_all old.decls (accepted_changes (Choose t quals) (Ok a))) (sym h.0) (ap (λ s. s.decls) h.1)
 acts_edits old new (Named name) answer h =
@@ -43,9 +39,7 @@ acts_edits old new commands.Work answer h =
     subst (λ a. new.decls ≡ edited_all old.decls (accepted_changes commands.Work (Ok a))) (sym h.0) (ap (λ s. s.decls) h.1)
 acts_edits old new (LookUp t quals) answer h =
     subst (λ a. new.decls ≡ edited_all old.decls (accepted_changes (LookUp t quals) (Ok a))) (sym h.given) (ap (λ s. s.decls) h.rest)
-acts_edits old new (Call method arg t quals) answer h =
-    subst (λ a. new.decls ≡ edited_all old.decls (accepted_changes (Call method arg t quals) (Ok a))) (sym h.given)
-    (ap (λ s. s.decls) h.rest)
+acts_edits old new (Call method arg t quals) answer h = grind (arith, new.decls, old.decls, h.given, h.rest)
 acts_edits old new (Fire arg t quals) answer h =
     subst (λ a. new.decls ≡ edited_all old.decls (accepted_changes (Fire arg t quals) (Ok a))) (sym h.given) (ap (λ s. s.decls) h.rest)
 acts_edits old new BeginRequest answer h =
@@ -57,8 +51,7 @@ acts_edits old new Stop answer h =
 acts_edits old new Unreadable answer h = absurd h
 
 unserved_decls : (old : State) (b : Bool) → (if b then emptied old else old).decls ≡ old.decls
-unserved_decls old true = refl
-unserved_decls old false = refl
+unserved_decls old t1 = grind arith
 
 step_edits : (old new : State) (command : Command) (answer : Result Answer AllocError)
     → LegalAnswer old command answer new → new.decls ≡ edited_all old.decls (accepted_changes command answer)
@@ -94,12 +87,8 @@ counts_of_edit old new changes h = ap (λ s. s.counts) h.rest
 -- a command that was carried out counts what its edits compute
 pub acts_count : (old new : State) (command : Command) (answer : Answer) → Acts old command answer new
     → new.counts ≡ counts_behind old.decls old.counts command (Ok answer)
-acts_count old new (Edit edit) answer h =
-    subst (λ a. new.counts ≡ counts_behind old.decls old.counts (Edit edit) (Ok a)) (sym h.0)
-    (counts_of_edit old new (changes_of edit) h.1)
-acts_count old new (Batch edits) answer h =
-    subst (λ a. new.counts ≡ counts_behind old.decls old.counts (Batch edits) (Ok a)) (sym h.0)
-    (counts_of_edit old new (changes_of_all edits) h.1)
+acts_count old new (Edit edit) answer h = grind (arith, new.counts, old.decls, old.counts, h.0, h.1, counts_of_edit)
+acts_count old new (Batch edits) answer h = grind (arith, new.counts, old.decls, old.counts, h.0, h.1, counts_of_edit)
 acts_count old new (Choose t quals) answer h =
     subst (λ a. new.counts ≡ counts_behind old.decls old.counts (Choose t quals) (Ok a)) (sym h.0) (ap (λ s. s.counts) h.1)
 acts_count old new (Named name) answer h =
@@ -116,9 +105,7 @@ acts_count old new commands.Work answer h =
     subst (λ a. new.counts ≡ counts_behind old.decls old.counts commands.Work (Ok a)) (sym h.0) (ap (λ s. s.counts) h.1)
 acts_count old new (LookUp t quals) answer h =
     subst (λ a. new.counts ≡ counts_behind old.decls old.counts (LookUp t quals) (Ok a)) (sym h.given) (ap (λ s. s.counts) h.rest)
-acts_count old new (Call method arg t quals) answer h =
-    subst (λ a. new.counts ≡ counts_behind old.decls old.counts (Call method arg t quals) (Ok a)) (sym h.given)
-    (ap (λ s. s.counts) h.rest)
+acts_count old new (Call method arg t quals) answer h = grind (arith, new.counts, old.decls, old.counts, h.given, h.rest)
 acts_count old new (Fire arg t quals) answer h =
     subst (λ a. new.counts ≡ counts_behind old.decls old.counts (Fire arg t quals) (Ok a)) (sym h.given) (ap (λ s. s.counts) h.rest)
 acts_count old new BeginRequest answer h =
@@ -130,8 +117,7 @@ acts_count old new Stop answer h =
 acts_count old new Unreadable answer h = absurd h
 
 unserved_counts : (old : State) (b : Bool) → (if b then emptied old else old).counts ≡ old.counts
-unserved_counts old true = refl
-unserved_counts old false = refl
+unserved_counts old t1 = grind arith
 
 step_counts : (old new : State) (command : Command) (answer : Result Answer AllocError)
     → LegalAnswer old command answer new → new.counts ≡ counts_behind old.decls old.counts command answer
@@ -151,10 +137,19 @@ history_counts : (old new : State) (history : History) → LegalHistory old hist
     → new.counts ≡ counts_of old.decls old.counts history
 history_counts old new [] h = ap (λ s. s.counts) h
 history_counts old new (step ∷ steps) h =
-    history_counts h.0 new steps h.2
-    ∙ ap (λ ds. counts_of ds h.0.counts steps) (step_edits old h.0 step.command step.answer h.1.answered)
-    ∙ ap (λ counts. counts_of (edited_all old.decls (accepted_changes step.command step.answer)) counts steps)
-    (step_counts old h.0 step.command step.answer h.1.answered)
+    grind (
+      arith,
+      history_counts h.0 new steps h.2,
+      h.0,
+      h.2,
+      h.0.counts,
+      step.command,
+      step.answer,
+      h.1.answered,
+      old.decls,
+      step_edits,
+      step_counts,
+    )
 
 pub counts_accepted_edits : (history : History) → CountsAcceptedEdits history
 counts_accepted_edits history book state h = history_counts (empty book) state history h

@@ -1,8 +1,8 @@
 -- What is kept of a deployment is right still after questions, and after edits.
 use Rattle.cdi_container.proofs.Common.{◌≡◌, List, Bool, true, false, Option, None, Some, refl, subst, sym, Result, Ok, Err, AreDistinct}
-use Rattle.cdi_container.proofs.Common.{Decl, Promised, ◌||◌, ap, ◌∙◌, false≢true, or_left, or_right, kept_in, knows, after_key, evaluated}
+use Rattle.cdi_container.proofs.Common.{Promised, ◌||◌, ap, ◌∙◌, false≢true, or_left, or_right, kept_in, knows, after_key, evaluated}
 use Rattle.cdi_container.proofs.Common.{EvaluatesSome, Key, has_key, wanted, is_wanted, IfSome, Staged, Commits, CommitsTo, AreShort}
-use Rattle.cdi_container.proofs.Common.{IsWiringOf, Wiring, OnOk, Kept, evaluated-apart, AreSettled, KnowsAll}
+use Rattle.cdi_container.proofs.Common.{IsWiringOf, Wiring, OnOk, Kept, evaluated-apart, AreSettled, KnowsAll, arith}
 use Rattle.std.specs.Prelude.{OnErr}
 use Rattle.cdi_observe.proofs.KeptLemmas.{knows_wanted}
 use Rattle.cdi_live.specs.State.{State as Live, with_staged}
@@ -21,10 +21,7 @@ not_readied never = absurd (false≢true never)
 wired_still : (old new : Live) (book : List Promised) (wiring : Option Wiring) → new.decls ≡ old.decls → KnowsStill old new
     → IsWiredRight old book wiring → IsWiredRight new book wiring
 wired_still old new book None same still h = tt
-wired_still old new book (Some w) same still h = (
-  subst (λ ds. IsWiringOf ds book w) (sym same) h.0,
-  λ key wants. still key (h.1 key (ap (λ ds. is_wanted ds key) (sym same) ∙ wants)),
-)
+wired_still old new book (Some w) same still h = grind (arith, h.0, h.1)
 
 still_settled : (old new : Live) (book : List Promised) (u : Unsettled) → new.decls ≡ old.decls → KnowsStill old new
     → AreSettled old.decls (knows old) book u → AreSettled new.decls (knows new) book u
@@ -46,47 +43,35 @@ stays_right old new book wiring u readied same still kept = record {
 pub reported_right : (old new : Live) (book : List Promised) (wiring : Option Wiring) (u v : Unsettled) (readied : Bool)
     → new.decls ≡ old.decls → KnowsStill old new → AreSettled new.decls (knows new) book v → IsKept old book wiring u readied
     → IsKept new book wiring v false
-reported_right old new book wiring u v readied same still settled kept = record {
-  short = subst AreShort (sym same) kept.short;
-  wired = wired_still old new book wiring same still kept.wired;
-  settled = settled;
-  readied = not_readied;
-}
+reported_right old new book wiring u v readied same still settled kept = grind (arith, kept.short, kept.wired, wired_still, not_readied)
 
 -- where a wiring was made
 pub wires_right : (old new : Live) (book : List Promised) (before : Option Wiring) (w : Wiring) (u now : Unsettled) (readied : Bool)
     → new.decls ≡ old.decls → IsWiringOf old.decls book w → KnowsAll new → AreSettled new.decls (knows new) book now
     → IsKept old book before u readied → IsKept new book (Some w) now false
-wires_right old new book before w u now readied same is all settled kept = record {
-  short = subst AreShort (sym same) kept.short;
-  wired = (subst (λ (ds : List Decl). IsWiringOf ds book w) (sym same) is, all);
-  settled = settled;
-  readied = not_readied;
-}
+wires_right old new book before w u now readied same is all settled kept = grind (arith, kept.short, not_readied)
 
 -- ---- after edits
 
 readied_with : (live : Live) (next : Staged) (u : Unsettled) (staged : Option Staged) → IsReadied live next u
     → IsReadied (with_staged live staged) next u
-readied_with live next u staged r = record {
-  draft = r.draft;
-  keys = r.keys;
-  edited = r.edited;
-  concerned = record {
-    moved = r.concerned.moved;
-    by = record {
-      edited = r.concerned.by.edited;
-      tells = r.concerned.by.tells;
-      types = r.concerned.by.types;
-      events = r.concerned.by.events;
-      classes = r.concerned.by.classes;
-    };
-    keys = r.concerned.keys;
-  };
-  staged = r.staged;
-  looked = r.looked;
-  named = r.named;
-}
+readied_with live next u staged r =
+    grind (
+      arith,
+      r.draft,
+      r.keys,
+      r.edited,
+      r.concerned.moved,
+      r.concerned.by.edited,
+      r.concerned.by.tells,
+      r.concerned.by.types,
+      r.concerned.by.events,
+      r.concerned.by.classes,
+      r.concerned.keys,
+      r.staged,
+      r.looked,
+      r.named,
+    )
 
 -- where a draft is staged, and what it concerns is looked at
 pub staged_right : (old new : Live) (next : Staged) (book : List Promised) (wiring : Option Wiring) (u v : Unsettled) (readied : Bool)
@@ -115,12 +100,7 @@ unstaged_right old new book wiring u v readied is still kept =
 -- where it is taken over
 pub commits_right : (new : Live) (book : List Promised) (wiring : Option Wiring) (u : Unsettled) → AreShort new.decls → wiring ≡ None
     → AreSettled new.decls (knows new) book u → IsKept new book wiring u false
-commits_right new book wiring u short none settled = record {
-  short = short;
-  wired = subst (IsWiredRight new book) (sym none) tt;
-  settled = settled;
-  readied = not_readied;
-}
+commits_right new book wiring u short none settled = grind (arith, not_readied)
 
 -- what was settled is, where what was readied is taken over
 pub settled_committed : (old new : Live) (book : List Promised) (u : Unsettled) → AreDistinct old.decls → AreDistinct new.decls

@@ -3,7 +3,7 @@ use Rattle.cdi_container.proofs.Common.{◌≡◌, ℕ, List, Bool, true, false,
 use Rattle.cdi_container.proofs.Common.{AllPairs, and_parts, false≢true, or_left, or_right, KnownAreWanted, known_of, kept_in, knows}
 use Rattle.cdi_container.proofs.Common.{after_key, evaluated, Key, has_key, same_key, with_key, wanted, is_wanted, same_key-decides}
 use Rattle.cdi_container.proofs.Common.{same_key-equiv, has-wanted, known_with, work_with, IsInOrder, filter, Kept, evaluated-apart, suc}
-use Rattle.cdi_container.proofs.Common.{list_any-append}
+use Rattle.cdi_container.proofs.Common.{list_any-append, arith}
 use Rattle.std.proofs.{Common.zero, Common.cond, Common.not, Math.Bool.or-false, lemmas.Map.Views.any-filter_same}
 use Rattle.std.specs.{Prelude.All, Fn.iterate}
 use Rattle.base_lists.proofs.Filters.{filter-each}
@@ -26,17 +26,12 @@ has-filter : (p : Key → Bool) (keys : List Key) (key : Key) → has_key (filte
 has-filter p keys key = any-filter_same (same_key key) p (p key) (λ k same. sym (ap p ((same_key-decides key k).0 same))) keys
 
 pub has-with_key : (keys : List Key) (key k : Key) → has_key keys k ≡ true → has_key (with_key keys key) k ≡ true
-has-with_key keys key k h = by (has_key keys key)
-  where
-    by : (b : Bool) → has_key (cond b keys (keys ++ key ∷ [])) k ≡ true
-    by true = h
-    by false = list_any-append (same_key k) keys (key ∷ []) ∙ or_left (has_key keys k) (has_key (key ∷ []) k) h
+has-with_key keys key k h = grind (arith, list_any-append)
 
 -- ---- known keys in the order of the wanted ones
 
 and-within : (b c : Bool) → (b ≡ true → c ≡ true) → (b && c) ≡ b
-and-within true c h = h refl
-and-within false c h = refl
+and-within t1 c h = grind arith
 
 has-known : (ds : List Decl) (p : Key → Bool) → ((key : Key) → p key ≡ true → is_wanted ds key ≡ true) → (key : Key)
     → has_key (filter p (wanted ds)) key ≡ p key
@@ -58,10 +53,7 @@ knows-listed live all key wants =
 
 module _ (ds : List Decl) (known : List Key) (ordered : IsInOrder ds known) where
   pub known-within : (key : Key) → has_key known key ≡ true → is_wanted ds key ≡ true
-  known-within key h =
-      sym (has-wanted ds key)
-      ∙ (and_parts (has_key known key) (has_key (wanted ds) key)
-      (sym (has-filter (has_key known) (wanted ds) key) ∙ ap (λ ks. has_key ks key) (sym ordered) ∙ h)).1
+  known-within key h = grind (arith, has-wanted, has-filter)
 
   known_with-list : (keys : List Key) → known_with ds known keys ≡ filter (λ key. has_key known key || has_key keys key) (wanted ds)
   known_with-list [] =
@@ -81,11 +73,7 @@ module _ (ds : List Decl) (known : List Key) (ordered : IsInOrder ds known) wher
 
   pub known-then : (key : Key)
       → known_with ds (known_with ds known (wanted ds)) (key ∷ []) ≡ known_with ds known (with_key (wanted ds) key)
-  known-then key =
-      ap (λ ks. known_with ds ks (key ∷ [])) known_with-wanted
-      ∙ filter-all (λ k. has_key (wanted ds) k || has_key (key ∷ []) k) (wanted ds)
-      (λ k h. or_left (has_key (wanted ds) k) (has_key (key ∷ []) k) h)
-      ∙ sym (known_with-all (with_key (wanted ds) key) (λ k h. has-with_key (wanted ds) key k h))
+  known-then key = grind (arith, known_with-wanted, filter-all, known_with-all, has-with_key)
 
   last-of : (n : ℕ) (work : ℕ) → iterate with_one (suc n) work ≡ with_one (iterate with_one n work)
   last-of zero work = refl
@@ -94,32 +82,12 @@ module _ (ds : List Decl) (known : List Key) (ordered : IsInOrder ds known) wher
   length-end : (p : Key → Bool) (keys : List Key) (key : Key) → p key ≡ true
       → length (filter p (keys ++ key ∷ [])) ≡ suc (length (filter p keys))
   length-end p [] key h = rw h refl
-  length-end p (k ∷ keys) key h = by (p k) (length-end p keys key h)
-    where
-      by : (b : Bool) → length (filter p (keys ++ key ∷ [])) ≡ suc (length (filter p keys))
-          → length (cond b (k ∷ filter p (keys ++ key ∷ [])) (filter p (keys ++ key ∷ [])))
-          ≡ suc (length (cond b (k ∷ filter p keys) (filter p keys)))
-      by true more = ap suc more
-      by false more = more
+  length-end p (k ∷ keys) key h = grind (arith, length-end p keys key h)
 
   pub work-then : (key : Key) (work : ℕ)
       → work_with (known_with ds known (wanted ds)) (key ∷ []) (work_with known (wanted ds) work)
       ≡ work_with known (with_key (wanted ds) key) work
-  work-then key work =
-      ap (λ ks. work_with ks (key ∷ []) (work_with known (wanted ds) work)) known_with-wanted ∙ by (has_key (wanted ds) key) refl
-    where
-      unknown-own : has_key (wanted ds) key ≡ false → (b : Bool) → has_key known key ≡ b → not (has_key known key) ≡ true
-      unknown-own none true e = absurd (false≢true (sym none ∙ has-wanted ds key ∙ known-within key e))
-      unknown-own none false e = ap not e
-
-      by : (b : Bool) → has_key (wanted ds) key ≡ b
-          → iterate with_one (length (cond (not b) (key ∷ []) [])) (work_with known (wanted ds) work)
-          ≡ work_with known (cond b (wanted ds) (wanted ds ++ key ∷ [])) work
-      by true e = refl
-      by false e =
-          sym (last-of (unknown (has_key known) (wanted ds)) work)
-          ∙ ap (λ n. iterate with_one n work)
-          (sym (length-end (λ k. not (has_key known k)) (wanted ds) key (unknown-own e (has_key known key) refl)))
+  work-then key work = grind (arith, known_with-wanted, false≢true, has-wanted, known-within, last-of, length-end)
 
   -- where all wanted keys are known, none counts
   pub none-unknown : (work : ℕ) → ((key : Key) → is_wanted ds key ≡ true → has_key known key ≡ true) → work_with known (wanted ds) work ≡ work
@@ -157,21 +125,11 @@ asked_evaluated old new keys same within wants apart are =
 
 -- one key, which may not be wanted
 one-same : (ds : List Decl) (key k : Key) → has_key (wanted ds) k ≡ true → (is_wanted ds key && same_key key k) ≡ has_key (key ∷ []) k
-one-same ds key k wants =
-    by (same_key key k) refl ∙ same_key-equiv.symm key k ∙ sym (or-false (same_key k key))
-  where
-    and-false : (b : Bool) → (b && false) ≡ false
-    and-false true = refl
-    and-false false = refl
-
-    by : (b : Bool) → same_key key k ≡ b → (is_wanted ds key && b) ≡ b
-    by true e = ap (λ c. c && true) (ap (is_wanted ds) ((same_key-decides key k).0 e) ∙ sym (has-wanted ds k) ∙ wants)
-    by false e = and-false (is_wanted ds key)
+one-same ds key k wants = grind (arith, same_key-equiv.symm, or-false, same_key-decides, has-wanted)
 
 one-counts : (b : Bool) (key : Key) (work : ℕ)
     → cond b work (with_one work) ≡ iterate with_one (length (cond (not b) (key ∷ []) [])) work
-one-counts true key work = refl
-one-counts false key work = refl
+one-counts t1 key work = grind arith
 
 pub asked_one : (old new : Live) (key : Key) → new.decls ≡ old.decls → KnownAreWanted old
     → kept_in new ≡ after_key old.decls key (kept_in old) → KnowsAfter (key ∷ []) old new

@@ -1,11 +1,11 @@
 -- The traces of the steps of a legal history keep the laws of traces.
 use Rattle.cdi_container.proofs.Common.{List, Option, Some, refl, subst, [], ◌∷◌, ap, Outcome, Scene, State, Entry, scene, History}
-use Rattle.cdi_container.proofs.Common.{LegalHistory, arith, Standing, IsRequested, IsSingleAt, IsWithinLimit, Step, LegalStep}
+use Rattle.cdi_container.proofs.Common.{LegalHistory, arith, Standing, IsRequested, IsSingleAt, IsWithinLimit, Step, LegalStep, empty}
 use Rattle.cdi_legal.specs.{Laws.IsOrdered, Throughout.AtEachEntry, Throughout.AtEachPoint, Throughout.Throughout}
 use Rattle.cdi_legal.proofs.{Bounding.commands_keep_budget, Bounding.commands_keep_throughout, Causing.commands_fail_for_causes}
 use Rattle.cdi_legal.proofs.{Faultless.commands_are_faultless, Ordering.commands_are_ordered}
 use Rattle.cdi_container.proofs.SharingLemmas.{by_run, nothing_stands, outcome_in, step_goes, step_holds, way_holds, Holds, Way}
-use Rattle.cdi_container.specs.History.{empty, EachStep, HasLawfulTraces, IsLawful, RanWithin}
+use Rattle.cdi_container.specs.History.{EachStep, HasLawfulTraces, IsLawful, RanWithin}
 
 -- ---- traces without entries
 

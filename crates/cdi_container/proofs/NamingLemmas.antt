@@ -1,6 +1,6 @@
 -- The entries of a trace, by the names by which its text is printed.
-use Rattle.cdi_container.proofs.Common.{◌≡◌, List, Option, None, map, refl, subst, sym, ap, ◌∙◌, Deployed, Moment, Names, State}
-use Rattle.cdi_container.proofs.Common.{trace_names, Entry, names_of}
+use Rattle.cdi_container.proofs.Common.{◌≡◌, List, Option, None, map, refl, subst, Deployed, Moment, Names, State, trace_names, Entry}
+use Rattle.cdi_container.proofs.Common.{names_of, arith}
 use Rattle.cdi_trace.specs.Entries.{Shown}
 use Rattle.cdi_container.proofs.Ending.{standing_at}
 use Rattle.cdi_container.specs.Named.{NamesTrace}
@@ -17,6 +17,4 @@ names_trace d before state m list is all =
 pub names_present : (d : Deployed) (before : Option Names) (state : State) (m : Moment) (names : Names) (trace : List Entry) (list : List Shown)
     → standing_at d (trace_names d before) m ≡ state → before ≡ None → names ≡ names_of d.decls → trace ≡ m.trace
     → list ≡ by_names names trace → NamesTrace state list
-names_present d before state m names trace list is none present same all =
-    names_trace d before state m list is
-    (all ∙ ap (by_names names) same ∙ ap (λ n. by_names n m.trace) (present ∙ sym (ap (trace_names d) none)))
+names_present d before state m names trace list is none present same all = grind (arith, m.trace, names_trace)

@@ -1,11 +1,11 @@
 -- The answers for the injection points are known where each wanted key is.
-use Rattle.cdi_container.proofs.Common.{◌≡◌, List, Bool, true, map, refl, Decl, [], ◌∷◌, ◌++◌, ◌∙◌, list_all, or_left, or_right, knows, Key}
+use Rattle.cdi_container.proofs.Common.{◌≡◌, List, Bool, true, map, refl, Decl, [], ◌∷◌, ◌∙◌, list_all, or_left, or_right, knows, Key}
 use Rattle.cdi_container.proofs.Common.{has_key, same_key, is_wanted, same_key-equiv, KnowsAll, list_any-append, AreKnown, placed_points}
-use Rattle.cdi_container.proofs.Common.{flat_map}
+use Rattle.cdi_container.proofs.Common.{flat_map, arith}
 use Rattle.std.proofs.lemmas.{Bool.and_from, List.Folds.list_all-append}
 use Rattle.std.specs.List.{list_any}
 use Rattle.cdi_model.specs.Mentions.{Mention, PointOf, mentions}
-use Rattle.cdi_observe.specs.Wanted.{asked_by, chains_by, events_by, key_of_point, point_named, wanted_by}
+use Rattle.cdi_observe.specs.Wanted.{asked_by, key_of_point, point_named, wanted_by}
 use Rattle.cdi_live.specs.State.{State as Live}
 use Rattle.cdi_container.specs.Points.{PlacedPoint, point_in, points_in}
 
@@ -28,10 +28,7 @@ module _ (f : Key → Bool) where
 
   -- what the points of a declaration ask for is wanted by it
   asks-wanted : (d : Decl) (key : Key) → has_key (asked_by d) key ≡ true → has_key (wanted_by d) key ≡ true
-  asks-wanted d key h =
-      list_any-append (same_key key) (asked_by d ++ chains_by d) (events_by d)
-      ∙ or_left (has_key (asked_by d ++ chains_by d) key) (has_key (events_by d) key)
-      (list_any-append (same_key key) (asked_by d) (chains_by d) ∙ or_left (has_key (asked_by d) key) (has_key (chains_by d) key) h)
+  asks-wanted d key h = grind (arith, list_any-append)
 
   points-pass : (ds : List Decl) → ((key : Key) → list_any (λ d. has_key (wanted_by d) key) ds ≡ true → f key ≡ true)
       → list_all passes (placed_points ds) ≡ true

@@ -1,9 +1,9 @@
 -- What an edit and a batch answer and leave makes a step.
-use Rattle.cdi_container.proofs.Common.{◌≡◌, ℕ, List, Bool, true, false, Option, None, Some, refl, subst, sym, Result, Ok, Err, Decl, []}
-use Rattle.cdi_container.proofs.Common.{ap, ◌∙◌, Error, Answers, Refusal, alone, State, AsksSome, left_by, change_of, changes_of}
-use Rattle.cdi_container.proofs.Common.{changes_of_all, answer_of_change, EditsFrom, OnOk, IfErr, IsStep}
+use Rattle.cdi_container.proofs.Common.{◌≡◌, ℕ, List, None, Some, refl, Result, Ok, Err, Decl, [], ap, ◌∙◌, Error, Answers, Refusal, alone}
+use Rattle.cdi_container.proofs.Common.{State, AsksSome, left_by, change_of, changes_of, changes_of_all, answer_of_change, EditsFrom, OnOk}
+use Rattle.cdi_container.proofs.Common.{IfErr, IsStep, arith}
 use Rattle.cdi_model.specs.declared.edit.Edit.{Edit as Change}
-use Rattle.cdi_model.specs.{declared.refusal.Refusal.TheVariants.TooMany, DeclList.is_too_many, Edits.refusal_of_edit, Edits.answer_of_edit}
+use Rattle.cdi_model.specs.{Edits.refusal_of_edit, Edits.answer_of_edit}
 use Rattle.cdi_model.specs.declared.refusal.Error.TheVariants as errors
 use Rattle.cdi_model.specs.declared.edit.Edit.TheVariants as changes
 use Rattle.cdi_admission.specs.Admission.{refusal_of_decl}
@@ -19,19 +19,11 @@ use Rattle.cdi_container.specs.declared.batch.BatchError.TheVariants as batch_er
 
 -- a change that is accepted has no refusal
 accepted : (ds : List Decl) (change : Change) (u : Unit {0}) → answer_of_edit ds change ≡ Ok u → refusal_of_edit ds change ≡ None
-accepted ds change u h = by (refusal_of_edit ds change) refl
-  where
-    by : (o : Option Refusal) → refusal_of_edit ds change ≡ o → refusal_of_edit ds change ≡ None
-    by None e = e
-    by (Some r) e = absurd (let no : Err r ≡ Ok u = rw e at h in cc)
+accepted ds change u h = grind arith
 
 -- the refusal of a change that is refused
 refused : (ds : List Decl) (change : Change) (r : Refusal) → answer_of_edit ds change ≡ Err r → refusal_of_edit ds change ≡ Some r
-refused ds change r h = by (refusal_of_edit ds change) refl
-  where
-    by : (o : Option Refusal) → refusal_of_edit ds change ≡ o → refusal_of_edit ds change ≡ Some r
-    by None e = absurd (let no : Ok tt ≡ Err r = rw e at h in cc)
-    by (Some s) e = e ∙ (let same : Err s ≡ Err r = rw e at h in cc)
+refused ds change r h = grind arith
 
 -- the same of what asks for a change, or for none
 pub accepted_change : (ds : List Decl) (asked : Result Change Refusal) (u : Unit {0}) → answer_of_change ds asked ≡ Ok u
@@ -62,44 +54,22 @@ edit_step old new edit (Err (errors.Refused r)) answer ok err = (ap alone (refus
 -- what a change of a declaration answers, a put of it answers with what was put
 pub put_accepted : (ds : List Decl) (d : Decl) (u : Unit {0}) → answer_of_edit ds (changes.Put d) ≡ Ok u
     → answer_of_put ds (Ok d) ≡ Ok (put_among ds d)
-put_accepted ds d u h = by (is_too_many ds d) refl
-  where
-    by : (b : Bool) → is_too_many ds d ≡ b → answer_of_put ds (Ok d) ≡ Ok (put_among ds d)
-    by true e = absurd (let no : Err TooMany ≡ Ok u = rw e at h in cc)
-    by false e = rw e refl
+put_accepted ds d u h = grind arith
 
 pub put_refused : (ds : List Decl) (d : Decl) (r : Refusal) → answer_of_edit ds (changes.Put d) ≡ Err r
     → answer_of_put ds (Ok d) ≡ Err r
-put_refused ds d r h = by (is_too_many ds d) refl
-  where
-    by : (b : Bool) → is_too_many ds d ≡ b → answer_of_put ds (Ok d) ≡ Err r
-    by true e =
-        let same : Err TooMany ≡ Err r = rw e at h in
-        let one : TooMany ≡ r = cc in
-        rw e (ap Err one)
-    by false e = absurd (let no : Ok tt ≡ Err r = rw e at h in cc)
+put_refused ds d r h = grind arith
 
 -- and what a put answers, the change does
 change_accepted : (ds : List Decl) (asked : Result Decl Refusal) (p : PutDone) → answer_of_put ds asked ≡ Ok p
     → answer_of_change ds (put_of asked) ≡ Ok tt
 change_accepted ds (Err r) p h = cc
-change_accepted ds (Ok d) p h = by (is_too_many ds d) refl
-  where
-    by : (b : Bool) → is_too_many ds d ≡ b → answer_of_edit ds (changes.Put d) ≡ Ok tt
-    by true e = absurd (let no : Err TooMany ≡ Ok p = rw e at h in cc)
-    by false e = rw e refl
+change_accepted ds (Ok d) p h = grind arith
 
 change_refused : (ds : List Decl) (asked : Result Decl Refusal) (r : Refusal) → answer_of_put ds asked ≡ Err r
     → answer_of_change ds (put_of asked) ≡ Err r
 change_refused ds (Err s) r h = cc
-change_refused ds (Ok d) r h = by (is_too_many ds d) refl
-  where
-    by : (b : Bool) → is_too_many ds d ≡ b → answer_of_edit ds (changes.Put d) ≡ Err r
-    by true e =
-        let same : Err TooMany ≡ Err r = rw e at h in
-        let one : TooMany ≡ r = cc in
-        rw e (ap Err one)
-    by false e = absurd (let no : Ok (put_among ds d) ≡ Err r = rw e at h in cc)
+change_refused ds (Ok d) r h = grind arith
 
 -- a put of what an edit puts is that edit
 puts_as_edit : (old new : State) (edit : Edit) (asked : Result Decl Refusal) (result : Result PutDone Error)
@@ -123,10 +93,7 @@ pub put_decl_step : (old new : State) (d : Decl) (result : Result PutDone Error)
     → Answers result (answer_of_put old.decls (admitted (refusal_of_decl d) d))
     → OnOk result (EditsFrom old (changes_in (put_of (admitted (refusal_of_decl d) d))) new)
     → IfErr result (λ error. new ≡ left_by error old) → PutDeclStep old d result new
-put_decl_step old new d result answer ok err boxed is =
-    puts_as_edit old new (edits.PutDecl boxed) (admitted (refusal_of_decl boxed.value) boxed.value) result refl
-    (subst (λ x. Answers result (answer_of_put old.decls (admitted (refusal_of_decl x) x))) (sym is) answer)
-    (subst (λ x. OnOk result (EditsFrom old (changes_in (put_of (admitted (refusal_of_decl x) x))) new)) (sym is) ok) err
+put_decl_step old new d result answer ok err boxed is = grind (arith, boxed.value, old.decls, puts_as_edit)
 
 pub ruleset put_answered = (put_accepted, put_refused)
 

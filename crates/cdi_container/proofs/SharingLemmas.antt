@@ -1,23 +1,21 @@
 -- What stands behind each step of a legal history: at most one instance of each bean with a normal scope is live, among others.
-use Rattle.cdi_container.proofs.Common.{◌≡◌, List, Bool, true, false, Option, None, Some, refl, subst, sym, Result, Ok, Err, if◌then◌else◌}
-use Rattle.cdi_container.proofs.Common.{[], ◌∷◌, ap, ◌∙◌, AllocError, Outcome, Refusal, LegalRun, Scene, State, RunsFrom, emptied, untold}
-use Rattle.cdi_container.proofs.Common.{Given, changes_of, changes_of_all, LegalEnd, Entry, Done, EndsRequest, scene, Command, Batch, Chain}
+use Rattle.cdi_container.proofs.Common.{◌≡◌, List, Bool, Option, None, Some, refl, subst, sym, Result, Ok, Err, if◌then◌else◌, [], ◌∷◌, ap}
+use Rattle.cdi_container.proofs.Common.{◌∙◌, AllocError, Outcome, Refusal, LegalRun, Scene, State, RunsFrom, emptied, untold, Given}
+use Rattle.cdi_container.proofs.Common.{changes_of, changes_of_all, LegalEnd, Entry, Done, EndsRequest, scene, Command, Batch, Chain}
 use Rattle.cdi_container.proofs.Common.{LookUp, Call, Fire, BeginRequest, EndRequest, Stop, Unreadable, Answer, Chosen, Intercepted}
 use Rattle.cdi_container.proofs.Common.{Observed, Reported, Counted, Worked, Refused, History, Acts, EditsFrom, LegalAnswer, LegalHistory}
 use Rattle.cdi_container.proofs.Common.{runs, arith, Standing, IsRequested, IsSingleAt, IsWithinLimit, Step, LegalStep, IsRooted}
-use Rattle.cdi_container.proofs.Common.{trace_behind}
+use Rattle.cdi_container.proofs.Common.{trace_behind, Edit, empty}
 use Rattle.base_lists.proofs.Each.{all-weaker}
 use Rattle.cdi_model.specs.declared.edit.Edit.{Edit as Change}
-use Rattle.cdi_contexts.specs.{Rising.IsRising, Standing.opened, declared.instance.Instance.Instance}
-use Rattle.cdi_contexts.specs.declared.instance.Owner.TheVariants.{Request}
+use Rattle.cdi_contexts.specs.{Rising.IsRising, Standing.opened}
 use Rattle.cdi_legal.specs.LegalRun.{Command as Run, LegalRequestEnd}
 use Rattle.cdi_legal.specs.{Laws.HoldsOfCommands, Single.IsSingle}
 use Rattle.cdi_legal.proofs.{Bounding.commands_keep_limit, Bounding.commands_keep_requested, Commands.commands_keep_single}
 use Rattle.cdi_legal.proofs.Housing.{both_ends_leave_nothing, commands_keep_rooted}
-use Rattle.cdi_lines.specs.declared.command.Command.TheVariants.{Edit}
 use Rattle.cdi_lines.specs.declared.command.Command.TheVariants as commands
 use Rattle.cdi_container.proofs.HistoryLemmas.{after_asking}
-use Rattle.cdi_container.specs.History.{empty, with_request, EndsContexts, IsRunFrom, SharesInstances}
+use Rattle.cdi_container.specs.History.{with_request, EndsContexts, IsRunFrom, SharesInstances}
 
 -- ---- what stands
 
@@ -38,25 +36,11 @@ nothing_single s = record { one = λ b x there normal. omega arith; shared = λ 
 
 -- it holds where nothing is live
 pub nothing_stands : (s : Scene) (x : Standing) → x.live ≡ [] → Stands s x
-nothing_stands s x e =
-    subst (Stands s) (sym (ap (λ (live : List Instance). record x { live = live }) e)) (record {
-      single = nothing_single s;
-      limit = omega arith;
-      requested = tt;
-      rises = omega arith;
-      rooted = tt;
-    })
+nothing_stands s x e = grind (arith, nothing_single)
 
 -- and where a request is active from now on
 request_stands : (s : Scene) (x : Standing) → Stands s x → Stands s (opened x)
-request_stands s x q = record {
-  single = q.single;
-  limit = q.limit;
-  requested = all-weaker (λ i. i.owner ≡ Request → x.active ≡ true) (λ i. i.owner ≡ Request → true ≡ true) x.live
-      (λ i active is. refl) q.requested;
-  rises = q.rises;
-  rooted = q.rooted;
-}
+request_stands s x q = grind (arith, q.single, q.limit, x.active, x.live, q.requested, q.rises, q.rooted, all-weaker)
 
 -- ---- the ways of steps
 
@@ -80,14 +64,19 @@ way_holds laws none {s} {before} (by_end trace after l) = laws.end s before trac
 way_stands : {s : Scene} {before : Standing} {given : Option Outcome} {trace : List Entry} {after : Standing}
     → Way s before given trace after → Stands s before → Stands s after
 way_stands way q =
-    let rests = way_holds commands_keep_rooted (λ s x r h. (r, h)) way q.rises q.rooted in
-    record {
-      single = way_holds commands_keep_single (λ s x h. h) way q.single;
-      limit = way_holds commands_keep_limit (λ s x h. h) way q.limit;
-      requested = way_holds commands_keep_requested (λ s x h. h) way q.requested;
-      rises = rests.0;
-      rooted = rests.1;
-    }
+    grind (
+      arith,
+      q.rises,
+      q.rooted,
+      q.single,
+      q.limit,
+      q.requested,
+      way_holds,
+      commands_keep_rooted,
+      commands_keep_single,
+      commands_keep_limit,
+      commands_keep_requested,
+    )
 
 -- the outcome that is answered
 abbrev pub outcome_in : Result Answer AllocError → Option Outcome
@@ -109,12 +98,7 @@ GoesTo old answer new = Goes (scene old) old.standing (Ok answer) new.trace new
 to : (old new : State) {answer like : Answer} {trace : List Entry} {after : Standing} → answer ≡ like → new.trace ≡ trace
     → Way (scene old) old.standing (outcome_in (Ok like)) trace after → (Holds old → Stands (scene old) after → Holds new)
     → GoesTo old answer new
-to old new {like = like} {after = after} is traced way holds = record {
-  after = after;
-  way = subst (λ (a : Answer). Way (scene old) old.standing (outcome_in (Ok a)) new.trace after) (sym is)
-      (subst (λ (t : List Entry). Way (scene old) old.standing (outcome_in (Ok like)) t after) (sym traced) way);
-  holds = holds;
-}
+to old new {like = like} {after = after} is traced way holds = grind (arith, old.standing, new.trace)
 
 -- a run leaves the scene
 behind : (old new : State) → IsRunFrom old new → Stands (scene old) new.standing → Holds new
@@ -166,8 +150,7 @@ acts_go old new other answer h = untold_goes old new h.0 refl h.1
 -- ---- steps
 
 unserved_holds : (old : State) (b : Bool) → Holds old → Holds (if b then emptied old else old)
-unserved_holds old true q = nothing_stands (scene old) (emptied old).standing refl
-unserved_holds old false q = q
+unserved_holds old t1 q = grind (arith, nothing_stands)
 
 -- what a command evaluates touches nothing that stands
 answer_goes : (old new : State) (command : Command) (answer : Result Answer AllocError) → LegalAnswer old command answer new
@@ -188,9 +171,7 @@ answer_goes old new command (Err error) h = record {
 }
 
 pub step_goes : (old new : State) (step : Step) → LegalStep old step new → Goes (scene old) old.standing step.answer step.trace new
-step_goes old new step h =
-    subst (λ (t : List Entry). Goes (scene old) old.standing step.answer t new) (sym h.trace)
-    (answer_goes old new step.command step.answer h.answered)
+step_goes old new step h = grind (arith, old.standing, step.answer, h.trace, step.command, h.answered, answer_goes)
 
 pub step_holds : (old new : State) (step : Step) → LegalStep old step new → Holds old → Holds new
 step_holds old new step h q = let goes = step_goes old new step h in goes.holds q (way_stands goes.way q)

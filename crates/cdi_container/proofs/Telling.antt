@@ -1,9 +1,8 @@
 -- The entries of a command are told by the names of the declarations before it.
 use Rattle.cdi_container.proofs.Common.{◌≡◌, refl, subst, sym, Ok, ap, State, untold, Given, changes_of, changes_of_all, Done, Command}
 use Rattle.cdi_container.proofs.Common.{Batch, Chain, LookUp, Call, Fire, BeginRequest, EndRequest, Stop, Unreadable, Answer, Chosen}
-use Rattle.cdi_container.proofs.Common.{Intercepted, Observed, Reported, Counted, Worked, Refused, Acts, EditsFrom, IsStep, List}
+use Rattle.cdi_container.proofs.Common.{Intercepted, Observed, Reported, Counted, Worked, Refused, Acts, EditsFrom, IsStep, List, Edit}
 use Rattle.cdi_model.specs.declared.edit.Edit.{Edit as Change}
-use Rattle.cdi_lines.specs.declared.command.Command.TheVariants.{Edit}
 use Rattle.cdi_lines.specs.declared.command.Command.TheVariants as commands
 use Rattle.cdi_container.proofs.HistoryLemmas.{after_asking}
 use Rattle.cdi_container.specs.History.{told_on}

@@ -1,31 +1,19 @@
 -- The state behind a legal history is told by what was commanded, answered and traced.
-use Rattle.cdi_container.proofs.Common.{◌≡◌, ℕ, List, Bool, true, false, refl, subst, sym, Result, Ok, Err, if◌then◌else◌, [], ◌∷◌, ap, ◌∙◌}
-use Rattle.cdi_container.proofs.Common.{list_all, and_parts, false≢true, Key, AllocError, Names, State, asked, emptied, Given, changes_of}
+use Rattle.cdi_container.proofs.Common.{◌≡◌, ℕ, List, Bool, true, refl, subst, sym, Result, Ok, Err, if◌then◌else◌, [], ◌∷◌, ap, ◌∙◌}
+use Rattle.cdi_container.proofs.Common.{list_all, and_parts, false≢true, Key, AllocError, Names, State, emptied, Given, changes_of}
 use Rattle.cdi_container.proofs.Common.{changes_of_all, Entry, names_of, closed, Done, Command, Batch, Chain, LookUp, Call, Fire}
 use Rattle.cdi_container.proofs.Common.{EndRequest, Stop, Unreadable, Answer, Chosen, Intercepted, Observed, Reported, Counted, Worked}
-use Rattle.cdi_container.proofs.Common.{Refused, History, Acts, EditsFrom, LegalAnswer, LegalHistory, runs, trace_behind}
+use Rattle.cdi_container.proofs.Common.{Refused, History, Acts, EditsFrom, LegalAnswer, LegalHistory, trace_behind, arith, Edit}
 use Rattle.cdi_model.specs.declared.edit.Edit.{Edit as Change}
 use Rattle.cdi_legal.specs.Follows.{after}
 use Rattle.cdi_legal.proofs.Commands.{run_follows, request_end_follows, end_follows}
-use Rattle.cdi_lines.specs.declared.command.Command.TheVariants.{Edit}
 use Rattle.cdi_lines.specs.declared.command.Command.TheVariants as commands
-use Rattle.cdi_container.proofs.HistoryLemmas.{acts_count, acts_edits, after_asking}
-use Rattle.cdi_container.proofs.Telling.{acts_tell}
+use Rattle.cdi_container.proofs.{HistoryLemmas.acts_count, HistoryLemmas.acts_edits, HistoryLemmas.after_asking, Telling.acts_tell}
 use Rattle.cdi_container.specs.Told.{standing_behind, carried_out, is_served, known_behind, told_behind, told_by, AreOneButKnown, IsTold}
-use Rattle.cdi_container.specs.History.{empty, left_unserved}
 
 same_state : (a b : State) → a.decls ≡ b.decls → a.counts ≡ b.counts → a.known ≡ b.known → a.work ≡ b.work → a.book ≡ b.book
     → a.standing ≡ b.standing → a.trace ≡ b.trace → a.text ≡ b.text → a ≡ b
-same_state a b d c k w p s t x = λ j. record {
-  decls = d j;
-  counts = c j;
-  known = k j;
-  work = w j;
-  book = p j;
-  standing = s j;
-  trace = t j;
-  text = x j;
-}
+same_state a b d c k w p s t x = grind arith
 
 -- ---- bodies never change
 
@@ -101,9 +89,7 @@ acts_work old new other answer h = ap (λ s. s.work) h.1
 acts_told : (old new : State) (command : Command) (answer : Answer) → Acts old command answer new
     → new ≡ carried_out old command answer new.trace (names_of old.decls)
 acts_told old new command answer h =
-    same_state new (carried_out old command answer new.trace (names_of old.decls)) (acts_edits old new command answer h)
-    (acts_count old new command answer h) (acts_known old new command answer h) (acts_work old new command answer h)
-    (acts_book old new command answer h) (acts_standing old new command answer h) refl (acts_tell old new command answer h)
+    grind (arith, new.trace, old.decls, same_state, acts_edits, acts_count, acts_known, acts_work, acts_book, acts_standing, acts_tell)
 
 answer_told : (old new : State) (command : Command) (answer : Answer) → LegalAnswer old command (Ok answer) new
     → new ≡ told_behind old command (Ok answer) new.trace (names_of old.decls)
@@ -121,10 +107,7 @@ answer_told old new command (Refused refusal edit) h = h.1
 served_told : (old new : State) (command : Command) (answer : Result Answer AllocError) (trace : List Entry) (names : Names)
     → LegalAnswer old command answer new → trace ≡ trace_behind answer new → names ≡ names_of old.decls → is_served answer ≡ true
     → new ≡ told_behind old command answer trace names
-served_told old new command (Ok answer) trace names h traced named served =
-    answer_told old new command answer h
-    ∙ ap (λ (t : List Entry). told_behind old command (Ok answer) t (names_of old.decls)) (sym traced)
-    ∙ ap (λ (n : Names). told_behind old command (Ok answer) trace n) (sym named)
+served_told old new command (Ok answer) trace names h traced named served = grind (arith, old.decls, answer_told)
 served_told old new command (Err error) trace names h traced named served = absurd (false≢true served)
 
 history_told : (old new : State) (history : History) → LegalHistory old history new
@@ -148,8 +131,7 @@ told_but_known s known work command other trace names = refl
 
 unserved_but_known : (s : State) (known : List Key) (work : ℕ) (b : Bool)
     → AreOneButKnown (if b then emptied (but_known s known work) else but_known s known work) (if b then emptied s else s)
-unserved_but_known s known work true = refl
-unserved_but_known s known work false = refl
+unserved_but_known s known work t1 = grind arith
 
 -- a state that differs from another in these at most
 known_apart : (old s new : State) (command : Command) (answer : Result Answer AllocError) (trace : List Entry) (names : Names)
@@ -161,10 +143,7 @@ known_apart old s new command (Ok answer) trace names like h traced named =
     (subst (λ (o : State). AreOneButKnown (told_behind o command (Ok answer) trace names) (told_behind s command (Ok answer) trace names))
     (sym like) (told_but_known s old.known old.work command answer trace names))
 known_apart old s new command (Err error) trace names like h traced named =
-    subst (λ (n : State). AreOneButKnown n (left_unserved s command))
-    (sym (h.rest ∙ ap (λ (l : State). left_unserved l command)
-    (h.asks.are ∙ ap (λ (o : State). but_known o (asked old h.asks.some).known (asked old h.asks.some).work) like)))
-    (unserved_but_known s (asked old h.asks.some).known (asked old h.asks.some).work (runs command))
+    grind (arith, h.rest, h.asks.are, h.asks.some, unserved_but_known)
 
 history_but_known : (old s new : State) (history : History) → AreOneButKnown old s → LegalHistory old history new
     → AreOneButKnown new (told_by s history)
@@ -174,7 +153,4 @@ history_but_known old s new (step ∷ steps) like h =
     (known_apart old s h.0 step.command step.answer step.trace step.names like h.1.answered h.1.trace h.1.names) h.2
 
 pub is_told : (history : History) → IsTold history
-is_told history book state h = record {
-  but_known = history_but_known (empty book) (empty book) state history refl h;
-  served = history_told (empty book) state history h;
-}
+is_told history book state h = grind (arith, history_but_known, history_told)

@@ -1,7 +1,6 @@
 use Rattle.cdi_container.proofs.Common.{◌≡◌, subst, sym, ◌∷◌, length, ap, ◌∙◌, ◌+◌, changes_of_all, drafted_all, first_refusal, SaysReason}
-use Rattle.cdi_container.proofs.Common.{refused_at, arith, into_iter_items}
+use Rattle.cdi_container.proofs.Common.{refused_at, arith, into_iter_items, asked_by}
 use Rattle.cdi_container.proofs.BatchLemmas.{first_accepted, first_refused, left_by_first}
-use Rattle.cdi_container.specs.Editing.{asked_by}
 use Rattle.cdi_container.proofs.batch.make_all.Goals as goal
 
 pub loop-edit-preserved : goal.loop-edit-preserved

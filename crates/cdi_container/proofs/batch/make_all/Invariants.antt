@@ -1,6 +1,5 @@
-use Rattle.cdi_container.proofs.Common.{◌≡◌, length, ◌+◌, changes_of_all, drafted_all, first_refusal, AreShort, into_iter_items}
+use Rattle.cdi_container.proofs.Common.{◌≡◌, length, ◌+◌, changes_of_all, drafted_all, first_refusal, AreShort, into_iter_items, asked_by}
 use Rattle.std.specs.Vec.Iter.{into_iter_len}
-use Rattle.cdi_container.specs.Editing.{asked_by}
 use Rattle.cdi_container.proofs.batch.make_all.Given as goal
 
 abbrev pub invariant-loop-edit : goal.invariant-loop-edit

@@ -1,7 +1,6 @@
 use Rattle.cdi_container.proofs.Common.{refl, subst, sym, beans, chosen, [], ◌∷◌, ap, ◌∙◌, choice_key, Deployed, State, trace_names, Chosen}
 use Rattle.cdi_container.proofs.Common.{RestsOnScene, OnErr-from}
-use Rattle.cdi_container.proofs.Asking.{asked_left, same_state, choose_unserved}
-use Rattle.cdi_container.proofs.Playing.{rests_asked}
+use Rattle.cdi_container.proofs.{Asking.asked_left, Asking.same_state, Asking.choose_unserved, Playing.rests_asked}
 use Rattle.cdi_container.proofs.container.Container.choose.Goals as goal
 
 pub invariant_of-self : goal.invariant_of-self

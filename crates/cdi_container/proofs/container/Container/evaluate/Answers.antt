@@ -1,9 +1,7 @@
 use Rattle.cdi_container.proofs.Common.{◌≡◌, refl, subst, sym, ap, ◌∙◌, wanted, known_with, State, AsksSome, asked, untold, trace_names}
 use Rattle.cdi_container.proofs.Common.{OnErr-from}
 use Rattle.cdi_container.proofs.Asking.{asked_left, asked_some, evaluate_unserved}
-use Rattle.cdi_container.proofs.Ending.{standing_at}
-use Rattle.cdi_container.proofs.KnownLemmas.{known_with-wanted}
-use Rattle.cdi_container.proofs.Playing.{rests_asked}
+use Rattle.cdi_container.proofs.{Ending.standing_at, KnownLemmas.known_with-wanted, Playing.rests_asked}
 use Rattle.cdi_container.proofs.container.Container.evaluate.Goals as goal
 
 pub invariant_of-self : goal.invariant_of-self

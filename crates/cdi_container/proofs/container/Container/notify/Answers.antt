@@ -1,9 +1,8 @@
 use Rattle.cdi_container.proofs.Common.{None, subst, sym, ap, ◌∙◌, keys_of_event, cleared, Moment, beginning, run_by, State, RunAnswers}
 use Rattle.cdi_container.proofs.Common.{trace_names, Ok, Err}
 use Rattle.cdi_legal.specs.LegalRun.{notify_all}
-use Rattle.cdi_container.proofs.AskedLemmas.{some-all, event-apart}
+use Rattle.cdi_container.proofs.{AskedLemmas.some-all, AskedLemmas.event-apart, Ending.standing_at}
 use Rattle.cdi_container.proofs.Asking.{leaves_run, refused_by, ran, run_left, run_without_memory}
-use Rattle.cdi_container.proofs.Ending.{standing_at}
 use Rattle.cdi_container.proofs.Playing.{rests_cleared, rests_ran, rests_unplayed}
 use Rattle.cdi_container.specs.Asked.{fired_of, run_of_event}
 use Rattle.cdi_container.proofs.container.Container.notify.Goals as goal

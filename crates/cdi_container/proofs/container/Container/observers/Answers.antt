@@ -1,7 +1,6 @@
 use Rattle.cdi_container.proofs.Common.{refl, subst, sym, beans, notified, [], ◌∷◌, ap, ◌∙◌, EventKey, Deployed, State, trace_names}
 use Rattle.cdi_container.proofs.Common.{Observed, RestsOnScene, OnErr-from}
-use Rattle.cdi_container.proofs.Asking.{asked_left, same_state, observers_unserved}
-use Rattle.cdi_container.proofs.Playing.{rests_asked}
+use Rattle.cdi_container.proofs.{Asking.asked_left, Asking.same_state, Asking.observers_unserved, Playing.rests_asked}
 use Rattle.cdi_container.proofs.container.Container.observers.Goals as goal
 
 pub invariant_of-self : goal.invariant_of-self

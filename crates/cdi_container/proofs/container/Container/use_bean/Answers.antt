@@ -1,8 +1,7 @@
 use Rattle.cdi_container.proofs.Common.{None, subst, asked_for, ap, ◌∙◌, keys_of_use, cleared, Moment, beginning, run_by, State, RunAnswers}
 use Rattle.cdi_container.proofs.Common.{trace_names, Ok, Err}
-use Rattle.cdi_container.proofs.AskedLemmas.{some-all, use-apart}
+use Rattle.cdi_container.proofs.{AskedLemmas.some-all, AskedLemmas.use-apart, Ending.standing_at}
 use Rattle.cdi_container.proofs.Asking.{leaves_run, refused_by, ran, run_left, run_without_memory}
-use Rattle.cdi_container.proofs.Ending.{standing_at}
 use Rattle.cdi_container.proofs.Playing.{rests_cleared, rests_ran, rests_unplayed}
 use Rattle.cdi_container.specs.Asked.{aim_of, run_at, run_of_use}
 use Rattle.cdi_container.proofs.container.Container.use_bean.Goals as goal

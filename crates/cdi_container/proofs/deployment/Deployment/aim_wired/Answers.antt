@@ -1,6 +1,5 @@
 use Rattle.cdi_container.proofs.Common.{refl, subst, sym, AreDistinct, asked_for, ap, ◌∙◌, choice_key, is_some}
-use Rattle.cdi_container.proofs.Aiming.{aimed_stands, aims}
-use Rattle.cdi_container.proofs.AskedLemmas.{own_asked, own_without_memory}
+use Rattle.cdi_container.proofs.{Aiming.aimed_stands, Aiming.aims, AskedLemmas.own_asked, AskedLemmas.own_without_memory}
 use Rattle.cdi_container.proofs.deployment.Deployment.aim_wired.Goals as goal
 
 -- ---- what is chosen is known

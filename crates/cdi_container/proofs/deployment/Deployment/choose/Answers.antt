@@ -1,7 +1,5 @@
 use Rattle.cdi_container.proofs.Common.{subst, [], ◌∷◌, choice_key, Deployed, IsAsked, is_sound, on_ok_weaker}
-use Rattle.cdi_container.proofs.AskedLemmas.{asks_one}
-use Rattle.cdi_container.proofs.Committing.{deployed_on}
-use Rattle.cdi_container.proofs.KeepingLemmas.{stays_right, still_asked}
+use Rattle.cdi_container.proofs.{AskedLemmas.asks_one, Committing.deployed_on, KeepingLemmas.stays_right, KeepingLemmas.still_asked}
 use Rattle.cdi_container.proofs.deployment.Deployment.choose.Goals as goal
 
 pub invariant_of-self : goal.invariant_of-self

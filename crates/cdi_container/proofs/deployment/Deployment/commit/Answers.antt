@@ -1,6 +1,5 @@
 use Rattle.cdi_container.proofs.Common.{◌≡◌, false, Option, subst, ap, ◌∙◌, Deployed, Wiring, is_sound, redeployed}
-use Rattle.cdi_container.proofs.Committing.{commits, deployed_on}
-use Rattle.cdi_container.proofs.KeepingLemmas.{commits_right}
+use Rattle.cdi_container.proofs.{Committing.commits, Committing.deployed_on, KeepingLemmas.commits_right}
 use Rattle.cdi_container.proofs.deployment.Deployment.commit.Goals as goal
 
 pub returns-clause-new : goal.returns-clause-new

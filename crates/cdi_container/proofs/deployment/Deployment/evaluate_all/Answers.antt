@@ -1,8 +1,6 @@
 use Rattle.cdi_container.proofs.Common.{subst, wanted, IsInOrder, Deployed, IsAsked, IsAskedSome, is_sound, OnErr-from}
-use Rattle.cdi_container.proofs.KnownLemmas.{in_order}
-use Rattle.cdi_container.proofs.AskedLemmas.{asks_some, asks_wanted}
-use Rattle.cdi_container.proofs.Committing.{deployed_on, same-counts}
-use Rattle.cdi_container.proofs.KeepingLemmas.{stays_right, still_evaluated}
+use Rattle.cdi_container.proofs.{KnownLemmas.in_order, AskedLemmas.asks_some, AskedLemmas.asks_wanted, Committing.deployed_on}
+use Rattle.cdi_container.proofs.{Committing.same-counts, KeepingLemmas.stays_right, KeepingLemmas.still_evaluated}
 use Rattle.cdi_container.proofs.deployment.Deployment.evaluate_all.Goals as goal
 
 pub invariant_of-self : goal.invariant_of-self

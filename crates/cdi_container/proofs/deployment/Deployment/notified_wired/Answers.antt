@@ -1,8 +1,7 @@
 use Rattle.cdi_container.proofs.Common.{List, refl, subst, sym, AreDistinct, scene_of, ap, ◌∙◌, EventKey, is_some}
 use Rattle.cdi_scene.specs.{Sound.AreObservers, declared.scene.Notified.Notified}
 use Rattle.cdi_staging.proofs.NotifiedLemmas.{notified_stand}
-use Rattle.cdi_container.proofs.Aiming.{positions_are}
-use Rattle.cdi_container.proofs.AskedLemmas.{own_asked, own_without_memory}
+use Rattle.cdi_container.proofs.{Aiming.positions_are, AskedLemmas.own_asked, AskedLemmas.own_without_memory}
 use Rattle.cdi_container.proofs.deployment.Deployment.notified_wired.Goals as goal
 
 -- ---- the observer methods are known

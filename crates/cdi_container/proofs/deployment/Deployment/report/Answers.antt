@@ -1,9 +1,7 @@
 use Rattle.cdi_container.proofs.Common.{refl, subst, wanted, IsInOrder, Deployed, IsAsked, IsAskedSome, is_sound, on_ok_weaker}
 use Rattle.std.proofs.lemmas.Result.{on_err_weaker}
-use Rattle.cdi_container.proofs.KnownLemmas.{in_order}
-use Rattle.cdi_container.proofs.AskedLemmas.{asks_some, asks_wanted}
-use Rattle.cdi_container.proofs.Committing.{deployed_on, same-counts}
-use Rattle.cdi_container.proofs.KeepingLemmas.{reported_right, still_evaluated}
+use Rattle.cdi_container.proofs.{KnownLemmas.in_order, AskedLemmas.asks_some, AskedLemmas.asks_wanted, Committing.deployed_on}
+use Rattle.cdi_container.proofs.{Committing.same-counts, KeepingLemmas.reported_right, KeepingLemmas.still_evaluated}
 use Rattle.cdi_container.proofs.deployment.Deployment.report.Goals as goal
 
 pub report-requires-clause-keeps : goal.report-requires-clause-keeps

@@ -1,8 +1,7 @@
 use Rattle.cdi_container.proofs.Common.{Some, subst, sym, ap, ◌∙◌, false≢true, wanted, IsInOrder, Deployed, IsAsked, IsAskedSome, is_sound}
 use Rattle.cdi_container.proofs.Common.{OnErr-from}
-use Rattle.cdi_container.proofs.KnownLemmas.{in_order}
+use Rattle.cdi_container.proofs.{KnownLemmas.in_order, Committing.deployed_on}
 use Rattle.cdi_container.proofs.AskedLemmas.{asks_nothing_more, asks_some, asks_wanted}
-use Rattle.cdi_container.proofs.Committing.{deployed_on}
 use Rattle.cdi_container.proofs.KeepingLemmas.{knows_all, reported_right, still_evaluated, wired_knows, wires_right}
 use Rattle.cdi_container.proofs.deployment.Deployment.wire.Goals as goal
 
