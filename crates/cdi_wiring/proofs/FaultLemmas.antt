@@ -1,13 +1,13 @@
 -- What is known of each declaration of a deployment without faults, and that such a deployment has a sound scene.
-use Rattle.std.proofs.Common.{◌≡◌, ◌==◌, ◌&&◌, ℕ, zero, suc, Bool, true, false, not, cond, List, [], ◌∷◌, ◌++◌, map, Option, Some, None}
-use Rattle.std.proofs.Common.{option_map, Contains, refl, sym, subst, ap, ◌∙◌, arith, bit_and}
-use Rattle.std.proofs.lemmas.Bool.{false≢true, true≢false, not-false, or_left, or_right}
-use Rattle.std.specs.{List.find, List.flat_map, List.slice_get, Option.option_eq, Option.option_to_list, Str.bytes_eq}
+use Rattle.std.proofs.Common.{◌≡◌, ◌&&◌, ℕ, zero, suc, Bool, true, false, List, [], ◌∷◌, ◌++◌, map, Option, Some, None, Contains, refl, sym}
+use Rattle.std.proofs.Common.{subst, ap, ◌∙◌, arith}
+use Rattle.std.proofs.lemmas.Bool.{false≢true, true≢false, not-false, or_right}
+use Rattle.std.specs.{List.flat_map, List.slice_get, Option.option_eq, Option.option_to_list, Str.bytes_eq}
 use Rattle.std.proofs.lemmas.{Bool.Decides.nat_tests, Grind.flat_map-append}
 use Rattle.base_lists.proofs.Flat.{map-empty, append-empty}
 use Rattle.base_numbers.proofs.Texts.{same_text}
-use Rattle.cdi_model.specs.Mentions.{Mention, BodyOf, CallOf, MethodOf, TypeIn, mentions, of_attributes, of_bindings, of_disposer, of_event}
-use Rattle.cdi_model.specs.Mentions.{of_method, of_observer, of_part, of_parts, of_point, of_producer, of_qualifiers, part_place_of}
+use Rattle.cdi_model.specs.Mentions.{Mention, BodyOf, CallOf, MethodOf, TypeIn, mentions, of_bindings, of_disposer, of_event, of_method}
+use Rattle.cdi_model.specs.Mentions.{of_observer, of_part, of_parts, of_point, of_producer, of_qualifiers, part_place_of}
 use Rattle.cdi_model.specs.Short.{AreShort, IsShortPart, IsShortBean, IsShortInterceptor}
 use Rattle.cdi_model.specs.{Decl.kind_of, Decl.name_of_decl, declared.decl.BeanDecl.BeanDecl, declared.decl.CallDecl.CallDecl}
 use Rattle.cdi_model.specs.declared.decl.{Decl.Decl, DisposerDecl.DisposerDecl, InterceptorDecl.InterceptorDecl, MethodDecl.MethodDecl}
@@ -17,7 +17,7 @@ use Rattle.cdi_model.specs.declared.decl.Decl.TheVariants as decls
 use Rattle.cdi_model.specs.declared.mention.PointPlace.TheVariants as points_are
 use Rattle.cdi_model.specs.declared.mention.TypePlace.TheVariants as types_are
 use Rattle.cdi_model.specs.declared.place.PartPlace.TheVariants as places
-use Rattle.cdi_bodies.specs.{Book.Promised, Book.promise_of, declared.promise.Promise.Promise}
+use Rattle.cdi_bodies.specs.{Book.Promised, Book.promise_of}
 use Rattle.cdi_bodies.proofs.FlagLemmas.{keeps_each}
 use Rattle.cdi_bodies.specs.Flags as flags
 use Rattle.cdi_effective.specs.{Beans.entries, Beans.managed, Beans.product, declared.records.BeanId.BeanId}
@@ -31,14 +31,13 @@ use Rattle.cdi_faults.specs.declared.fault.Code.TheVariants as codes_of
 use Rattle.cdi_faults.specs.declared.fault.Fault.TheVariants as faults_are
 use Rattle.cdi_faults.specs.declared.fault.Subject.TheVariants as subjects
 use Rattle.cdi_subjects.specs.Filter.{found_in, has_enabled, is_enabled_in, producer_of_part, producer_of_point, some_if}
-use Rattle.cdi_subjects.specs.Sites.{has_method, is_lost, is_lost_among, lacks_method, lost_in, own_points, points_seen}
+use Rattle.cdi_subjects.specs.Sites.{is_lost, lost_in, own_points, points_seen}
 use Rattle.cdi_subjects.specs.Subjects.{is_ambiguous, is_unsatisfied, point_in, subjects_at_fault}
 use Rattle.cdi_subjects.specs.Parts.{allowed_in, is_fit, unfit_in}
 use Rattle.cdi_subjects.proofs.RecordLemmas.{managed-producer, product-producer}
 use Rattle.cdi_validate.specs.Faults.{faults, faults_of, faults_of_code}
 use Rattle.cdi_staging.specs.Faultless.{AreFine, AreFineAround, IsFineAround, AreSatisfied, IsFineManaged, IsFinePart, allowed_to}
 use Rattle.cdi_staging.specs.Faultless.{IsFineObserver, IsFineProducer, IsFit, IsLed, seen_by}
-use Rattle.cdi_staging.specs.Sites.{is_point}
 use Rattle.cdi_staging.proofs.SceneLemmas.{fine_is_sound}
 use Rattle.cdi_wiring.specs.Laws.{FaultlessIsSound}
 
@@ -51,9 +50,7 @@ first-empty (x ∷ xs) ys e = absurd (cc)
 flat-empty : {X Y : Type 0} (f : X → List Y) (xs : List X) (k : ℕ) (x : X) → flat_map f xs ≡ []
     → slice_get xs k ≡ Some x → f x ≡ []
 flat-empty f [] k x e at = absurd (cc)
-flat-empty f (v ∷ xs) zero x e at =
-    let same : v ≡ x = cc in
-    subst (λ w. f w ≡ []) same (first-empty (f v) (flat_map f xs) e)
+flat-empty f (v ∷ xs) zero x e at = grind (arith, first-empty)
 flat-empty f (v ∷ xs) (suc k) x e at = flat-empty f xs k x (append-empty (f v) (flat_map f xs) e) at
 
 -- the same of an element, wherever it stands
@@ -68,8 +65,7 @@ some-empty None e = refl
 some-empty (Some x) e = absurd (cc)
 
 not-found : (b : Bool) (subject : Subject) → some_if b subject ≡ None → b ≡ false
-not-found true subject e = absurd (cc)
-not-found false subject e = refl
+not-found t1 subject e = grind arith
 
 -- ---- faults
 
@@ -116,17 +112,13 @@ back-free f xs ys free = append-empty (found_in f xs) (found_in f ys) (sym (flat
 each-free : {X : Type 0} (f : Mention → Option Subject) (g : X → List Mention) (xs : List X) (k : ℕ) (x : X) → IsFree f (flat_map g xs)
     → slice_get xs k ≡ Some x → IsFree f (g x)
 each-free f g [] k x free at = absurd (cc)
-each-free f g (v ∷ xs) zero x free at =
-    let same : v ≡ x = cc in
-    subst (λ w. IsFree f (g w)) same (front-free f (g v) (flat_map g xs) free)
+each-free f g (v ∷ xs) zero x free at = grind (arith, front-free)
 each-free f g (v ∷ xs) (suc k) x free at = each-free f g xs k x (back-free f (g v) (flat_map g xs) free) at
 
 one-free : {X : Type 0} (f : Mention → Option Subject) (g : X → Mention) (xs : List X) (k : ℕ) (x : X) → IsFree f (map g xs)
     → slice_get xs k ≡ Some x → f (g x) ≡ None
 one-free f g [] k x free at = absurd (cc)
-one-free f g (v ∷ xs) zero x free at =
-    let same : v ≡ x = cc in
-    subst (λ w. f (g w) ≡ None) same (some-empty (f (g v)) (first-empty (option_to_list (f (g v))) (found_in f (map g xs)) free))
+one-free f g (v ∷ xs) zero x free at = grind (arith, some-empty, first-empty)
 one-free f g (v ∷ xs) (suc k) x free at =
     one-free f g xs k x (append-empty (option_to_list (f (g v))) (found_in f (map g xs)) free) at
 
@@ -144,33 +136,22 @@ record AreFree (f : Mention → Option Subject) (bean : BeanDecl) : Type 0 where
 each-part-free : (f : Mention → Option Subject) (bean : BeanDecl) → IsFree f (mentions (decls.Bean bean)) → AreFree f bean
 unfolding mentions
 each-part-free f bean free =
-    let class = TypeIn types_are.Class bean.name ∷ of_attributes bean.attributes in
-    let bindings = of_bindings bean.bindings in
-    let own = flat_map (of_point points_are.Constructor) bean.points in
-    let construct = of_parts places.Construct bean.construct in
-    let post = of_parts places.Post bean.post in
-    let pre = of_parts places.Pre bean.pre in
-    let methods = flat_map of_method bean.methods in
-    let producers = flat_map of_producer bean.producers in
-    let disposers = flat_map of_disposer bean.disposers in
-    let observers = flat_map of_observer bean.observers in
-    let to_bodies = class ++ bindings ++ own ++ (construct ++ post ++ pre) in
-    let before_observers = front-free f (to_bodies ++ methods ++ producers ++ disposers) observers free in
-    let before_disposers = front-free f (to_bodies ++ methods ++ producers) disposers before_observers in
-    let before_producers = front-free f (to_bodies ++ methods) producers before_disposers in
-    let before_methods = front-free f to_bodies methods before_producers in
-    let bodies = back-free f (class ++ bindings ++ own) (construct ++ post ++ pre) before_methods in
-    let early = front-free f (construct ++ post) pre bodies in
-    record {
-      own = back-free f (class ++ bindings) own (front-free f (class ++ bindings ++ own) (construct ++ post ++ pre) before_methods);
-      construct = front-free f construct post early;
-      post = back-free f construct post early;
-      pre = back-free f (construct ++ post) pre bodies;
-      methods = back-free f to_bodies methods before_producers;
-      producers = back-free f (to_bodies ++ methods) producers before_disposers;
-      disposers = back-free f (to_bodies ++ methods ++ producers) disposers before_observers;
-      observers = back-free f (to_bodies ++ methods ++ producers ++ disposers) observers free;
-    }
+    grind (
+      arith,
+      bean.name,
+      bean.attributes,
+      bean.bindings,
+      bean.points,
+      bean.construct,
+      bean.post,
+      bean.pre,
+      bean.methods,
+      bean.producers,
+      bean.disposers,
+      bean.observers,
+      front-free,
+      back-free,
+    )
 
 -- nothing is at fault of what an interceptor declaration names
 record AreFreeAround (f : Mention → Option Subject) (i : InterceptorDecl) : Type 0 where
@@ -184,46 +165,19 @@ each-part-free-around : (f : Mention → Option Subject) (i : InterceptorDecl) �
     → AreFreeAround f i
 unfolding mentions
 each-part-free-around f i free =
-    let bindings = of_bindings i.bindings in
-    let own = flat_map (of_point points_are.Constructor) i.points in
-    let invoke = of_parts places.AroundInvoke i.around_invoke in
-    let construct = of_parts places.AroundConstruct i.around_construct in
-    let post = of_parts places.Post i.post in
-    let pre = of_parts places.Pre i.pre in
-    let bodies = back-free f (bindings ++ own) (invoke ++ construct ++ post ++ pre) free in
-    let three = front-free f (invoke ++ construct ++ post) pre bodies in
-    let two = front-free f (invoke ++ construct) post three in
-    record {
-      own = back-free f bindings own (front-free f (bindings ++ own) (invoke ++ construct ++ post ++ pre) free);
-      around_invoke = front-free f invoke construct two;
-      around_construct = back-free f invoke construct two;
-      post = back-free f (invoke ++ construct) post three;
-      pre = back-free f (invoke ++ construct ++ post) pre bodies;
-    }
+    grind (arith, i.bindings, i.points, i.around_invoke, i.around_construct, i.post, i.pre, back-free, front-free)
 
 -- ---- enabled beans
 
 managed-enabled : (ds : List Decl) (bean : BeanDecl) → (managed ds bean).is_enabled ≡ true
     → is_enabled_in (decls.Bean bean) (entries ds (decls.Bean bean)) None ≡ true
-managed-enabled ds bean enabled =
-    let b = managed ds bean in
-    or_left (option_eq bytes_eq b.id.producer None && b.is_enabled) (has_enabled (map (product ds bean) bean.producers) None)
-    (ap (λ o. option_eq bytes_eq o None && b.is_enabled) (managed-producer ds bean) ∙ enabled)
+managed-enabled ds bean enabled = grind (arith, bean.producers, managed-producer)
 
 one-enabled : (ds : List Decl) (bean : BeanDecl) (ps : List ProducerDecl) (k : ℕ) (p : ProducerDecl) → slice_get ps k ≡ Some p
     → (product ds bean p).is_enabled ≡ true → has_enabled (map (product ds bean) ps) (Some p.name) ≡ true
 one-enabled ds bean [] k p at enabled = absurd (cc)
-one-enabled ds bean (v ∷ ps) zero p at enabled =
-    let same : p ≡ v = cc in
-    let is : (option_eq bytes_eq (product ds bean p).id.producer (Some p.name) && (product ds bean p).is_enabled) ≡ true =
-    ap (λ o. option_eq bytes_eq o (Some p.name) && (product ds bean p).is_enabled) (product-producer ds bean p)
-    ∙ ap (λ b. b && (product ds bean p).is_enabled) (same_text p.name p.name refl) ∙ enabled in
-    or_left (option_eq bytes_eq (product ds bean v).id.producer (Some p.name) && (product ds bean v).is_enabled)
-    (has_enabled (map (product ds bean) ps) (Some p.name))
-    (subst (λ w. (option_eq bytes_eq (product ds bean w).id.producer (Some p.name) && (product ds bean w).is_enabled) ≡ true) same is)
-one-enabled ds bean (v ∷ ps) (suc k) p at enabled =
-    or_right (option_eq bytes_eq (product ds bean v).id.producer (Some p.name) && (product ds bean v).is_enabled)
-    (has_enabled (map (product ds bean) ps) (Some p.name)) (one-enabled ds bean ps k p at enabled)
+one-enabled ds bean (v ∷ ps) zero p at enabled = grind (arith, p.name, product-producer, same_text)
+one-enabled ds bean (v ∷ ps) (suc k) p at enabled = grind (arith, one-enabled ds bean ps k p at enabled, p.name)
 
 product-enabled : (ds : List Decl) (bean : BeanDecl) (k : ℕ) (p : ProducerDecl) → slice_get bean.producers k ≡ Some p
     → (product ds bean p).is_enabled ≡ true → is_enabled_in (decls.Bean bean) (entries ds (decls.Bean bean)) (Some p.name) ≡ true
@@ -234,26 +188,12 @@ product-enabled ds bean k p at enabled =
 -- ---- bodies
 
 fit : (book : List Promised) (allowed : ℕ) (body : List ℕ) → is_fit allowed (promise_of book body) ≡ true → IsFit book allowed body
-fit book allowed body e = by (promise_of book body) refl e
-  where
-    all : (promise : Promise) → (bit_and allowed promise.0 == promise.0) ≡ true → bit_and allowed promise.0 ≡ promise.0
-    all promise is = grind (arith, nat_tests)
-
-    by : (o : Option Promise) → promise_of book body ≡ o → is_fit allowed o ≡ true → IsFit book allowed body
-    by None none is = absurd (false≢true is)
-    by (Some promise) found is = record {
-      promise = promise;
-      found = found;
-      kept = keeps_each promise allowed (all promise is);
-    }
+fit book allowed body e = grind (arith, nat_tests, false≢true, keeps_each)
 
 -- the first of some mentions, where it is a body
 fit-first : (book : List Promised) (d : Decl) (place : PartPlace) (body : List ℕ) (ms : List Mention)
     → IsFree (unfit_in book d) (BodyOf place body ∷ ms) → IsFit book (allowed_in d place) body
-fit-first book d place body ms free =
-    let is = is_fit (allowed_in d place) (promise_of book body) in
-    fit book (allowed_in d place) body (not-false is (not-found (not is) (subjects.Part place)
-    (some-empty (some_if (not is) (subjects.Part place)) (first-empty _ (found_in (unfit_in book d) ms) free))))
+fit-first book d place body ms free = grind (arith, fit, not-false, not-found, some-empty, first-empty)
 
 -- ---- injection points
 
@@ -277,8 +217,7 @@ abbrev at_calls : List Decl → Decl → Mention → Option Subject
 at_calls ds d = lost_in ds (answer_to ds) (entries ds d) d
 
 where-enabled : (enabled test : Bool) → enabled ≡ true → (enabled && test) ≡ false → test ≡ false
-where-enabled true test is e = e
-where-enabled false test is e = absurd (false≢true is)
+where-enabled t1 test is e = grind (arith, false≢true)
 
 -- no point of what is enabled has a choice that the test finds
 none-found : (test : PointDecl → Choice → Bool) (ds : List Decl) (d : Decl) (place : PointPlace) (points : List PointDecl) (k : ℕ)
@@ -307,27 +246,13 @@ satisfied ds d place points enabled some single k point at =
 
 led : (ds : List Decl) (points : List PointDecl) (call : CallDecl) → is_lost ds (answer_to ds) points call ≡ false
     → IsLed ds points call
-led ds points call found = by (find (is_point call.point) points) refl found
-  where
-    by : (o : Option PointDecl) → find (is_point call.point) points ≡ o
-        → is_lost_among ds call.method (option_map (answer_to ds) o) ≡ false → IsLed ds points call
-    by None none lost = absurd (true≢false lost)
-    by (Some point) sees kept = record {
-      point = point;
-      sees = sees;
-      has = λ id one. not-false (has_method ds id call.method) (sym (ap (lacks_method ds call.method) one) ∙ kept);
-    }
+led ds points call found = grind (arith, call.point, call.method, true≢false, not-false)
 
 -- each call site of a body of what is enabled, where none is lost
 all-led : (ds : List Decl) (d : Decl) (place : PartPlace) (params : List PointDecl) (calls : List CallDecl)
     → is_enabled_in d (entries ds d) (producer_of_part place) ≡ true → IsFree (at_calls ds d) (map (CallOf place params) calls)
     → (k : ℕ) (call : CallDecl) → slice_get calls k ≡ Some call → IsLed ds (points_seen place params (own_points d)) call
-all-led ds d place params calls enabled free k call at =
-    let is = is_enabled_in d (entries ds d) (producer_of_part place) in
-    let lost = is_lost ds (answer_to ds) (points_seen place params (own_points d)) call in
-    led ds (points_seen place params (own_points d)) call
-    (where-enabled is lost enabled (not-found (is && lost) (subjects.Call place call.point call.method)
-    (one-free (at_calls ds d) (CallOf place params) calls k call free at)))
+all-led ds d place params calls enabled free k call at = grind (arith, call.point, call.method, led, where-enabled, not-found, one-free)
 
 fine-part : (ds : List Decl) (book : List Promised) (d : Decl) (place : PartPlace) (params : List PointDecl) (part : PartDecl)
     → IsShortPart part → is_enabled_in d (entries ds d) (producer_of_part place) ≡ true
@@ -370,29 +295,19 @@ method-body f m free =
 
 producer-body : (f : Mention → Option Subject) (p : ProducerDecl) → IsFree f (of_producer p)
     → IsFree f (of_part (part_place_of p) p.params p.part)
-producer-body f p free =
-    back-free f (TypeIn types_are.Produced p.product_type ∷ of_attributes p.attributes ++ of_bindings p.bindings
-    ++ flat_map (of_point (points_are.Producer p.name)) p.params) (of_part (part_place_of p) p.params p.part) free
+producer-body f p free = grind (arith, p.product_type, p.attributes, p.bindings, p.name, p.params, p.part, back-free)
 
 producer-params : (f : Mention → Option Subject) (p : ProducerDecl) → IsFree f (of_producer p)
     → IsFree f (flat_map (of_point (points_are.Producer p.name)) p.params)
-producer-params f p free =
-    let before = TypeIn types_are.Produced p.product_type ∷ of_attributes p.attributes ++ of_bindings p.bindings in
-    let params = flat_map (of_point (points_are.Producer p.name)) p.params in
-    back-free f before params (front-free f (before ++ params) (of_part (part_place_of p) p.params p.part) free)
+producer-params f p free = grind (arith, p.product_type, p.attributes, p.bindings, p.name, p.params, p.part, back-free, front-free)
 
 observer-body : (f : Mention → Option Subject) (o : ObserverDecl) → IsFree f (of_observer o)
     → IsFree f (of_part (places.Observer o.name) o.params o.part)
-observer-body f o free =
-    back-free f (TypeIn types_are.Observed o.event_type ∷ of_qualifiers o.qualifiers ++ of_bindings o.bindings
-    ++ flat_map (of_point (points_are.Observer o.name)) o.params) (of_part (places.Observer o.name) o.params o.part) free
+observer-body f o free = grind (arith, o.event_type, o.qualifiers, o.bindings, o.name, o.params, o.part, back-free)
 
 observer-params : (f : Mention → Option Subject) (o : ObserverDecl) → IsFree f (of_observer o)
     → IsFree f (flat_map (of_point (points_are.Observer o.name)) o.params)
-observer-params f o free =
-    let before = TypeIn types_are.Observed o.event_type ∷ of_qualifiers o.qualifiers ++ of_bindings o.bindings in
-    let params = flat_map (of_point (points_are.Observer o.name)) o.params in
-    back-free f before params (front-free f (before ++ params) (of_part (places.Observer o.name) o.params o.part) free)
+observer-params f o free = grind (arith, o.event_type, o.qualifiers, o.bindings, o.name, o.params, o.part, back-free, front-free)
 
 disposer-body : (book : List Promised) (bean : BeanDecl) (s : DisposerDecl) → IsFree (unfit_in book (decls.Bean bean)) (of_disposer s)
     → IsFit book flags.at_disposal s.body
@@ -440,22 +355,11 @@ fine-managed ds book bean none short on =
 fine-method : (ds : List Decl) (book : List Promised) (bean : BeanDecl) (p : ProducerDecl)
     → IsFinePart ds book (allowed_in (decls.Bean bean) (part_place_of p)) (points_seen (part_place_of p) p.params bean.points) p.part
     → IsFinePart ds book (allowed_to p) (seen_by bean p) p.part
-fine-method ds book bean p fine = by p.is_static fine
-  where
-    by : (s : Bool)
-        → IsFinePart ds book (allowed_in (decls.Bean bean) (cond s (places.StaticProducer p.name) (places.Producer p.name)))
-        (points_seen (cond s (places.StaticProducer p.name) (places.Producer p.name)) p.params bean.points) p.part
-        → IsFinePart ds book (cond s flags.at_class flags.at_instance) (p.params ++ cond s [] bean.points) p.part
-    by true fine = fine
-    by false fine = fine
+fine-method ds book bean p fine = grind (arith, p.is_static, p.name, p.params, bean.points, p.part)
 
 -- a producer method belongs to its product, whether it is static or not
 of-product : (p : ProducerDecl) → producer_of_part (part_place_of p) ≡ Some p.name
-of-product p = by p.is_static
-  where
-    by : (s : Bool) → producer_of_part (cond s (places.StaticProducer p.name) (places.Producer p.name)) ≡ Some p.name
-    by true = refl
-    by false = refl
+of-product p = grind (arith, p.is_static, p.name)
 
 fine-producer : (ds : List Decl) (book : List Promised) (bean : BeanDecl) (k : ℕ) (producer : ProducerDecl)
     → HasNone ds book bean
