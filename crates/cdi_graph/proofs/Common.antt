@@ -4,8 +4,5 @@ pub use Rattle.std.specs.List.{flat_map}
 pub use Rattle.std.proofs.lemmas.Fn.{filter_same}
 pub use Rattle.indexmap.specs.IndexSet.{contains}
 pub use Rattle.cdi_faults.specs.declared.fault.Fault.{Fault}
-pub use Rattle.cdi_graph.specs.declared.node.PointId.{PointId}
-pub use Rattle.cdi_graph.specs.Red.{is_ambiguous, is_unsatisfied, point_node}
-pub use Rattle.cdi_graph.specs.Edges.{chosen, is_choice, is_owned, owned}
-pub use Rattle.cdi_graph.specs.Nodes.{is_bean, is_point}
-pub use Rattle.cdi_graph.specs.SamePoint.{same_point}
+pub use Rattle.cdi_graph.specs.{declared.node.PointId.PointId, Red.is_ambiguous, Red.is_unsatisfied, Red.point_node, Edges.chosen}
+pub use Rattle.cdi_graph.specs.{Edges.is_choice, Edges.is_owned, Edges.owned, Nodes.is_bean, Nodes.is_point, SamePoint.same_point}

@@ -8,9 +8,8 @@ use Rattle.cdi_faults.specs.declared.fault.{Code.Code, Subject.Subject}
 use Rattle.cdi_faults.specs.declared.fault.Code.TheVariants as codes
 use Rattle.cdi_faults.specs.declared.fault.Fault.TheVariants as faults
 use Rattle.cdi_faults.specs.declared.fault.Subject.TheVariants as subjects
-use Rattle.cdi_graph.specs.Red.{ambiguous_at, is_this, point_in, state_of, unsatisfied_at}
+use Rattle.cdi_graph.specs.{Red.ambiguous_at, Red.is_this, Red.point_in, Red.state_of, Red.unsatisfied_at, SamePoint.same_point-decides}
 use Rattle.cdi_graph.specs.{declared.node.PointState.PointState, RedLaws.IsAtFault, RedLaws.RedAreAtFault, RedLaws.UnsatisfiedAreAtFault}
-use Rattle.cdi_graph.specs.SamePoint.{same_point-decides}
 use Rattle.cdi_graph.specs.declared.node.PointState.TheVariants as states
 
 pub or_none : (b : Bool) → b ≡ (b || false)

@@ -1,7 +1,6 @@
 use Rattle.std.proofs.Common.{◌≡◌, ◌++◌, flat_map, map, rules, subst}
 use Rattle.cdi_differences.proofs.AnswerLemmas.{in_turn}
-use Rattle.cdi_differences.specs.Wiring.{answer_lines, chain_lines, observer_lines, point_lines}
-use Rattle.cdi_differences.specs.Holds.{shown_line}
+use Rattle.cdi_differences.specs.{Wiring.answer_lines, Wiring.chain_lines, Wiring.observer_lines, Wiring.point_lines, Holds.shown_line}
 use Rattle.cdi_differences.proofs.wiring.add_answers.Goals as goal
 
 pub returns-clause-lines : goal.returns-clause-lines

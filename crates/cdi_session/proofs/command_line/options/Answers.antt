@@ -1,9 +1,8 @@
 use Rattle.std.proofs.Common.{◌≡◌, ap, subst, sym, refl, codes, true, ◌∙◌, List, ℕ}
 use Rattle.std.specs.Prelude.{map}
-use Rattle.clap.specs.Simple.{App, app_of, is_simple, matches_of}
+use Rattle.clap.specs.{Simple.App, Simple.app_of, Simple.is_simple, Simple.matches_of, Faults.fault_of, Faults.is_simple_and_free}
 use Rattle.clap.proofs.{OnLiterals.clap_on_literals, TakesLemmas.passed_up, WalkLemmas.one_text-rows, WalkLemmas.first_value-rows}
 use Rattle.clap.specs.{Kinds.HasKind, Matches.found_of, Walk.rows_of, Walk.one_of, Walk.first_of}
-use Rattle.clap.specs.Faults.{fault_of, is_simple_and_free}
 use Rattle.cdi_session.specs.Options.{script_app}
 use Rattle.cdi_session.proofs.command_line.options.Goals as goal
 
