@@ -13,11 +13,7 @@ module _ (p : ℕ → Bool) where
 
   weight-least : (c : ℕ) → weight c ≤ 1
   unfolding weight
-  weight-least c = by (p c)
-    where
-      by : (b : Bool) → cond b 1 0 ≤ 1
-      by true = omega arith
-      by false = omega arith
+  weight-least c = grind arith
 
   counted-from : (n : ℕ) (xs : List ℕ) → fold (λ a x. a + cond (p x) 1 0) n xs ≡ n + count_by p xs
   counted-from n [] = omega arith

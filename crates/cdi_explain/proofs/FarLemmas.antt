@@ -1,8 +1,8 @@
 -- Names are not near whose characters are too many of one class.
-use Rattle.std.proofs.Common.{◌≡◌, ℕ, ◌+◌, ◌<◌, nat_le, true, false, List, [], ◌∷◌, ◌++◌, Option, None, Some, IfSome, length, length-append}
-use Rattle.std.proofs.Common.{get_or, count_by, if◌then◌else◌, inl, inr, sym, ap, ◌∙◌, arith}
+use Rattle.std.proofs.Common.{◌≡◌, ℕ, ◌+◌, ◌<◌, true, false, List, [], ◌∷◌, ◌++◌, Option, None, Some, IfSome, length, length-append, get_or}
+use Rattle.std.proofs.Common.{count_by, inl, inr, ap, ◌∙◌, arith}
 use Rattle.std.specs.Str.{chars}
-use Rattle.std.proofs.lemmas.{Bool.and_parts, Bool.cases_lt, List.get_or_append_left, List.get_or-append-add}
+use Rattle.std.proofs.lemmas.{Bool.cases_lt, List.get_or_append_left, List.get_or-append-add}
 use Rattle.cdi_explain.proofs.CountLemmas.{counts-apart}
 use Rattle.cdi_explain.specs.Near.{distance, is_near, is_nearer, nearer}
 use Rattle.cdi_explain.specs.{declared.near.Near.Near, Counts.is_of_class, Counts.AreApart, Counts.AreCounted}
@@ -20,20 +20,14 @@ counted-more name counts n counted is class within = elim (cases_lt class (lengt
 
 pub far-apart : (wanted name counts others : List ℕ) → AreCounted wanted counts → AreCounted name others → AreApart counts others
     → 2 < distance wanted name
-far-apart wanted name counts others counted told apart =
-    let bound = counts-apart (is_of_class apart.0) (chars wanted) (chars name) in
-    omega (arith, bound.0, bound.1, counted apart.0 apart.1, told apart.0 apart.2, apart.3)
+far-apart wanted name counts others counted told apart = grind (arith, apart.0, apart.1, apart.2, apart.3, counts-apart)
 
 not-near : (wanted : List ℕ) (best : Option Near) (d : ℕ) → IfSome best (λ near. is_near wanted near.distance ≡ true) → 2 < d
     → is_nearer wanted best d ≡ false
 not-near wanted None d near far = grind arith
-not-near wanted (Some best) d near far =
-    let close : nat_le best.distance 2 ≡ true = (and_parts (nat_le best.distance 2) _ near).0 in
-    grind arith
+not-near wanted (Some best) d near far = grind (arith, best.distance)
 
 -- such a name is not the nearest
 pub stays-nearest : (wanted name : List ℕ) (best : Option Near) → IfSome best (λ near. is_near wanted near.distance ≡ true)
     → 2 < distance wanted name → best ≡ nearer wanted best name
-stays-nearest wanted name best near far =
-    ap (λ b. if b then Some (record { name = name; distance = distance wanted name }) else best)
-    (sym (not-near wanted best (distance wanted name) near far))
+stays-nearest wanted name best near far = grind (arith, not-near)

@@ -1,6 +1,6 @@
 -- The interceptors that are called at a place are those of its chain.
-use Rattle.std.proofs.Common.{◌≡◌, ℕ, Bool, true, false, not, ◌&&◌, List, [], ◌∷◌, filter, length, nat_eq, is_none, is_some, Option, Some}
-use Rattle.std.proofs.Common.{None, refl, sym, ap, ◌∙◌}
+use Rattle.std.proofs.Common.{arith, ◌≡◌, ℕ, Bool, true, false, not, ◌&&◌, List, [], ◌∷◌, filter, length, nat_eq, is_none, is_some, Option}
+use Rattle.std.proofs.Common.{Some, None, refl, sym, ap, ◌∙◌}
 use Rattle.std.specs.List.{list_all, AllByRecursion}
 use Rattle.base_lists.proofs.{Filters.filter-alike, Sorting.all-sorted}
 use Rattle.cdi_model.specs.declared.decl.InterceptorDecl.{InterceptorDecl}
@@ -32,11 +32,7 @@ called_surround ds set place i =
 
 all_kept : {X : Type 0} (p : X → Bool) (P : X → Type 0) → ((x : X) → p x ≡ true → P x) → (xs : List X) → AllByRecursion P (filter p xs)
 all_kept p P here [] = tt
-all_kept p P here (x ∷ xs) = by (p x) refl (all_kept p P here xs)
-  where
-    by : (b : Bool) → p x ≡ b → AllByRecursion P (filter p xs) → AllByRecursion P (filter p (x ∷ xs))
-    by true e rest = rw e (here x e, rest)
-    by false e rest = rw e rest
+all_kept p P here (x ∷ xs) = grind (arith, all_kept p P here xs)
 
 pub called_are_the_chain : CalledAreTheChain
 unfolding in_order chain_by

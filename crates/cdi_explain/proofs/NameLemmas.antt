@@ -1,30 +1,17 @@
 -- Where the bean of a name is wanted, those that are chosen or tied are those of the answer.
-use Rattle.std.proofs.Common.{◌≡◌, ℕ, ◌==◌, Bool, true, false, ◌&&◌, List, filter, length, map, refl, sym, ap, ◌∙◌}
+use Rattle.std.proofs.Common.{arith, ◌≡◌, ℕ, ◌&&◌, List, filter, map, sym, ap, ◌∙◌}
 use Rattle.std.proofs.lemmas.List.Elements.{filter_agree}
 use Rattle.base_lists.proofs.Filters.{filter-both}
 use Rattle.cdi_effective.specs.declared.records.Effective.{Effective}
-use Rattle.cdi_resolve.specs.Choices.{candidate, chosen_by_name, ids, is_named, named, Candidate}
+use Rattle.cdi_resolve.specs.Choices.{candidate, chosen_by_name, ids, named, Candidate}
 use Rattle.cdi_explain.proofs.VerdictLemmas.{among_same, choice_ids, left_out, map_filter, map_map, map_same, taken_kept}
-use Rattle.cdi_explain.specs.Names.{has_name, name_verdict, name_verdict_by, name_verdict_if, TakenAreTheNamed}
-use Rattle.cdi_explain.specs.Verdicts.{among_by, is_kept, is_taken, kept, rivals_of, verdict_among}
-use Rattle.cdi_explain.specs.declared.rivals.Rivals.{Rivals}
+use Rattle.cdi_explain.specs.Names.{has_name, name_verdict, name_verdict_by, TakenAreTheNamed}
+use Rattle.cdi_explain.specs.{Verdicts.is_kept, Verdicts.is_taken, Verdicts.rivals_of, declared.rivals.Rivals.Rivals}
 
 taken_here : (beans : List Effective) (n : List ℕ) (bean : Effective)
     → is_taken (name_verdict beans n bean) ≡ (has_name n bean && is_kept (map candidate (named beans n)) (candidate bean))
 unfolding name_verdict
-taken_here beans n bean = by (is_named n bean.name) refl bean.is_enabled refl (is_kept cs (candidate bean)) refl
-  where
-    cs : List Candidate
-    cs = map candidate (named beans n)
-
-    by : (h : Bool) → is_named n bean.name ≡ h → (e : Bool) → bean.is_enabled ≡ e → (k : Bool) → is_kept cs (candidate bean) ≡ k
-        → is_taken (name_verdict_if n bean (verdict_among cs (candidate bean)))
-        ≡ ((bean.is_enabled && is_named n bean.name) && is_kept cs (candidate bean))
-    by false p true r k u = rw (p, r) refl
-    by false p false r k u = rw (p, r) refl
-    by true p false r k u = rw (p, r) refl
-    by true p true r true u = rw (p, r, u) (taken_kept (length (kept cs) == 1))
-    by true p true r false u = rw (p, r, u) (left_out (candidate bean).is_alternative)
+taken_here beans n bean = grind (arith, bean.name, bean.is_enabled, taken_kept, left_out)
 
 pub taken_are_the_named : TakenAreTheNamed
 unfolding chosen_by_name named
@@ -47,10 +34,4 @@ taken_are_the_named beans n =
 pub judged : (beans : List Effective) (n : List ℕ) (some : List Effective) (rivals : Rivals) → some ≡ filter (has_name n) beans
     → rivals ≡ rivals_of (map candidate some) → map (name_verdict_by n rivals) beans ≡ map (name_verdict beans n) beans
 unfolding name_verdict_by name_verdict named
-judged beans n some rivals found told =
-    rw (told, found) (map_same (λ bean. name_verdict_if n bean (among_by (rivals_of cs) (candidate bean)))
-    (λ bean. name_verdict_if n bean (verdict_among cs (candidate bean)))
-    (λ bean. ap (name_verdict_if n bean) (among_same cs (candidate bean))) beans)
-  where
-    cs : List Candidate
-    cs = map candidate (filter (has_name n) beans)
+judged beans n some rivals found told = grind (arith, map_same, among_same)

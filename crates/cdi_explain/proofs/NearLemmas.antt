@@ -13,11 +13,7 @@ use Rattle.cdi_explain.specs.declared.near.Near.{Near}
 -- what is not nearer than one is not nearer than one that is nearer yet
 closer : (wanted : List ℕ) (best : Option Near) (taken d : ℕ) → is_nearer wanted best taken ≡ true → is_nearer wanted best d ≡ false
     → nat_lt d taken ≡ false
-closer wanted None taken d near far = by (nat_lt d taken) refl
-  where
-    by : (b : Bool) → nat_lt d taken ≡ b → b ≡ false
-    by true e = grind arith
-    by false e = refl
+closer wanted None taken d near far = grind arith
 closer wanted (Some best) taken d near far = grind arith
 
 with_one : List ℕ → Option Near → List ℕ → Bool → Option Near
@@ -26,11 +22,7 @@ with_one wanted best name b = if b then Some (record { name = name; distance = d
 stays_one : (wanted : List ℕ) (best : Option Near) (name : List ℕ) (d : ℕ) → is_nearer wanted best d ≡ false
     → is_nearer wanted (nearer wanted best name) d ≡ false
 unfolding with_one
-stays_one wanted best name d far = by (is_nearer wanted best (distance wanted name)) refl
-  where
-    by : (b : Bool) → is_nearer wanted best (distance wanted name) ≡ b → is_nearer wanted (with_one wanted best name b) d ≡ false
-    by true e = closer wanted best (distance wanted name) d e far
-    by false e = far
+stays_one wanted best name d far = grind (arith, with_one, closer)
 
 stays : (wanted : List ℕ) (names : List (List ℕ)) (best : Option Near) (d : ℕ) → is_nearer wanted best d ≡ false
     → is_nearer wanted (fold (nearer wanted) best names) d ≡ false
@@ -42,12 +34,7 @@ not_below_itself d = grind arith
 
 passed : (wanted : List ℕ) (best : Option Near) (name : List ℕ) → is_nearer wanted (nearer wanted best name) (distance wanted name) ≡ false
 unfolding with_one
-passed wanted best name = by (is_nearer wanted best (distance wanted name)) refl
-  where
-    by : (b : Bool) → is_nearer wanted best (distance wanted name) ≡ b
-        → is_nearer wanted (with_one wanted best name b) (distance wanted name) ≡ false
-    by true e = not_below_itself (distance wanted name)
-    by false e = e
+passed wanted best name = grind (arith, with_one, not_below_itself)
 
 none_nearer : (wanted : List ℕ) (names : List (List ℕ)) (best : Option Near)
     → AllByRecursion (λ name. is_nearer wanted (fold (nearer wanted) best names) (distance wanted name) ≡ false) names
@@ -69,15 +56,10 @@ near_then wanted names (Some best) d found is = nearer_is_near wanted best.dista
 found_one : (wanted : List ℕ) (names : List (List ℕ)) (best : Option Near) (name : List ℕ) → has names name ≡ true
     → IfSome best (IsFound wanted names) → IfSome (nearer wanted best name) (IsFound wanted names)
 unfolding with_one
-found_one wanted names best name there found = by (is_nearer wanted best (distance wanted name)) refl
-  where
-    by : (b : Bool) → is_nearer wanted best (distance wanted name) ≡ b → IfSome (with_one wanted best name b) (IsFound wanted names)
-    by true e = record { among = there; told = refl; close = near_then wanted names best (distance wanted name) found e }
-    by false e = found
+found_one wanted names best name there found = grind (arith, with_one, near_then)
 
 or_true : (b : Bool) → (b || true) ≡ true
-or_true true = refl
-or_true false = refl
+or_true t1 = grind arith
 
 found_all : (wanted : List ℕ) (all names : List (List ℕ)) (best : Option Near)
     → ((name : List ℕ) → has names name ≡ true → has all name ≡ true) → IfSome best (IsFound wanted all)

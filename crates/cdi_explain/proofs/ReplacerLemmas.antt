@@ -1,6 +1,6 @@
 -- Which beans have a replacer.
-use Rattle.std.proofs.Common.{◌≡◌, ℤ, Bool, true, false, not, ◌&&◌, ◌||◌, is_none, is_some, List, [], ◌∷◌, ◌++◌, map, Option, Some, None}
-use Rattle.std.proofs.Common.{option_map, if◌then◌else◌, refl, sym, ◌∙◌}
+use Rattle.std.proofs.Common.{arith, ◌≡◌, ℤ, Bool, true, false, not, ◌&&◌, ◌||◌, is_none, is_some, List, [], ◌∷◌, ◌++◌, map, Option, Some}
+use Rattle.std.proofs.Common.{None, option_map, if◌then◌else◌, refl, sym, ◌∙◌}
 use Rattle.std.specs.List.{find, flat_map, list_any, AllByRecursion}
 use Rattle.std.proofs.lemmas.{Bool.false≢true, List.Elements.All-from_recursion}
 use Rattle.cdi_model.specs.{Decl.name_of_decl, declared.decl.BeanDecl.BeanDecl, declared.decl.Decl.Decl}
@@ -13,12 +13,7 @@ use Rattle.cdi_explain.specs.declared.verdict.Disabled.TheVariants as disabled
 
 find_any : {X Y : Type 0} (f : X → Y) (p : X → Bool) (xs : List X) → is_some (option_map f (find p xs)) ≡ list_any p xs
 find_any f p [] = refl
-find_any f p (x ∷ xs) = by (p x) refl (find_any f p xs)
-  where
-    by : (b : Bool) → p x ≡ b → is_some (option_map f (find p xs)) ≡ list_any p xs
-        → is_some (option_map f (find p (x ∷ xs))) ≡ list_any p (x ∷ xs)
-    by true e rest = rw e refl
-    by false e rest = rw e rest
+find_any f p (x ∷ xs) = grind (arith, find_any f p xs)
 
 pub replaced_have_replacers : ReplacedHaveReplacers
 unfolding replacer_of is_replaced
@@ -40,8 +35,7 @@ managed_has ds bean off why =
     replaced_have_replacers ds bean.name ∙ replaced (is_replaced ds bean.name) (managed ds bean).is_alternative bean.priority off why
 
 product_is : (b : Bool) → (if b then disabled.NoPriority else disabled.Declaring) ≡ disabled.Specialized → ⊥
-product_is true why = let clash : disabled.NoPriority ≡ disabled.Specialized = why in cc
-product_is false why = let clash : disabled.Declaring ≡ disabled.Specialized = why in cc
+product_is t1 why = grind arith
 
 product_has : (ds : List Decl) (bean : BeanDecl) (p : ProducerDecl) → HasReplacer ds (product ds bean p)
 unfolding effective

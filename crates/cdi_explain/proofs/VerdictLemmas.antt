@@ -1,6 +1,6 @@
 -- Verdicts by the greatest priority, and that the beans which are chosen or tied are those of the answer.
-use Rattle.std.proofs.Common.{◌≡◌, ℕ, ◌==◌, Bool, true, false, not, ◌&&◌, is_none, List, [], ◌∷◌, filter, length, map, position, Option}
-use Rattle.std.proofs.Common.{Some, None, if◌then◌else◌, refl, sym, ap, ◌∙◌}
+use Rattle.std.proofs.Common.{arith, ◌≡◌, ℕ, ◌==◌, Bool, true, false, not, ◌&&◌, is_none, List, [], ◌∷◌, filter, length, map, position}
+use Rattle.std.proofs.Common.{Option, Some, None, if◌then◌else◌, refl, sym, ap, ◌∙◌}
 use Rattle.std.specs.List.{list_all}
 use Rattle.std.proofs.lemmas.List.Elements.{filter_agree}
 use Rattle.base_lists.proofs.{Filters.filter-both, Filters.filter-each, Places.position-cons}
@@ -8,12 +8,10 @@ use Rattle.cdi_model.specs.declared.{decl.Decl.Decl, quals.Qual.Qual}
 use Rattle.cdi_match.specs.Chain.{has}
 use Rattle.cdi_effective.specs.{Qualifiers.cover_all, Qualifiers.required, Qualifiers.some_covers, declared.records.Effective.Effective}
 use Rattle.cdi_resolve.specs.Choices.{alternatives, among, candidate, choice_of, chosen, eligible, greatest, ids, is_eligible, is_greatest}
-use Rattle.cdi_resolve.specs.Choices.{only, Candidate}
-use Rattle.cdi_resolve.specs.Eligible.{is_eligible_for}
+use Rattle.cdi_resolve.specs.{Choices.only, Choices.Candidate, Eligible.is_eligible_for}
 use Rattle.cdi_explain.proofs.PriorityLemmas.{kept_by_top, not_itself}
-use Rattle.cdi_explain.specs.Verdicts.{among_by, ids_in, is_kept, is_kept_among, is_kept_by, is_taken, kept, lacking, left, rivals_of}
-use Rattle.cdi_explain.specs.Verdicts.{taken, top, verdict, verdict_among, verdict_by, verdict_if, TakenAreTheAnswer}
-use Rattle.cdi_explain.specs.declared.rivals.Rivals.{Rivals}
+use Rattle.cdi_explain.specs.Verdicts.{among_by, ids_in, is_kept, is_kept_among, is_taken, kept, lacking, rivals_of, verdict, verdict_among}
+use Rattle.cdi_explain.specs.{Verdicts.verdict_by, Verdicts.verdict_if, Verdicts.TakenAreTheAnswer, declared.rivals.Rivals.Rivals}
 use Rattle.cdi_explain.specs.declared.verdict.Verdict.TheVariants as verdicts
 
 -- ---- by the greatest priority
@@ -22,21 +20,13 @@ abbrev eligible_in : List Decl → List Effective → List ℕ → List Qual →
 eligible_in ds beans t asked_for = map candidate (filter (is_eligible_for ds t asked_for) beans)
 
 pub among_same : (cs : List Candidate) (c : Candidate) → among_by (rivals_of cs) c ≡ verdict_among cs c
-among_same cs c =
-    ap (λ kept. if is_kept_by (top (alternatives cs)) c then taken (length kept) else left c.is_alternative)
-    (filter_agree (is_kept_by (top (alternatives cs))) (is_kept cs) (kept_by_top (alternatives cs)) cs)
-    ∙ ap (λ b. if b then taken (length (kept cs)) else left c.is_alternative) (kept_by_top (alternatives cs) c)
+among_same cs c = grind (arith, c.is_alternative, filter_agree, kept_by_top)
 
 -- ---- lists
 
 pub map_filter : {X Y : Type 0} (f : X → Y) (g : Y → Bool) (xs : List X) → map f (filter (λ x. g (f x)) xs) ≡ filter g (map f xs)
 map_filter f g [] = refl
-map_filter f g (x ∷ xs) = by (g (f x)) refl (map_filter f g xs)
-  where
-    by : (b : Bool) → g (f x) ≡ b → map f (filter (λ x. g (f x)) xs) ≡ filter g (map f xs)
-        → map f (filter (λ x. g (f x)) (x ∷ xs)) ≡ filter g (map f (x ∷ xs))
-    by true e rest = rw e (ap (λ l. f x ∷ l) rest)
-    by false e rest = rw e rest
+map_filter f g (x ∷ xs) = grind (arith, map_filter f g xs)
 
 pub map_same : {X Y : Type 0} (f g : X → Y) → ((x : X) → f x ≡ g x) → (xs : List X) → map f xs ≡ map g xs
 map_same f g same [] = refl
@@ -55,11 +45,7 @@ only_ids (c ∷ d ∷ cs) = refl
 
 -- the only one is kept
 only_kept : (c : Candidate) → kept (c ∷ []) ≡ c ∷ []
-only_kept c = by c.is_alternative refl
-  where
-    by : (b : Bool) → c.is_alternative ≡ b → kept (c ∷ []) ≡ c ∷ []
-    by true e = rw (e, not_itself c.priority) refl
-    by false e = rw e refl
+only_kept c = grind (arith, c.is_alternative, c.priority, not_itself)
 
 among_ids : (cs : List Candidate) (some : List Candidate) → alternatives cs ≡ some → ids_in (among cs some) ≡ ids (filter (is_kept_among some) cs)
 among_ids cs [] e = ap ids (sym (filter-each cs))
@@ -78,21 +64,13 @@ choice_ids (c ∷ d ∷ cs) = among_ids (c ∷ d ∷ cs) (alternatives (c ∷ d 
 
 pub lacking_all : {X : Type 0} (f : X → Bool) (xs : List X) → is_none (position (λ x. not (f x)) xs) ≡ list_all f xs
 lacking_all f [] = refl
-lacking_all f (x ∷ xs) = by (f x) refl (position (λ x. not (f x)) xs) refl (lacking_all f xs)
-  where
-    by : (b : Bool) → f x ≡ b → (o : Option ℕ) → position (λ x. not (f x)) xs ≡ o → is_none (position (λ x. not (f x)) xs) ≡ list_all f xs
-        → is_none (position (λ x. not (f x)) (x ∷ xs)) ≡ list_all f (x ∷ xs)
-    by true e None k rest = rw (position-cons (λ x. not (f x)) x xs, e, k) (sym (sym rest ∙ ap is_none k))
-    by true e (Some i) k rest = rw (position-cons (λ x. not (f x)) x xs, e, k) (sym (sym rest ∙ ap is_none k))
-    by false e o k rest = rw (position-cons (λ x. not (f x)) x xs, e) refl
+lacking_all f (x ∷ xs) = grind (arith, lacking_all f xs, position-cons)
 
 pub taken_kept : (b : Bool) → is_taken (if b then verdicts.Chosen else verdicts.Tied) ≡ true
-taken_kept true = refl
-taken_kept false = refl
+taken_kept t1 = grind arith
 
 pub left_out : (b : Bool) → is_taken (if b then verdicts.LowerPriority else verdicts.NoAlternative) ≡ false
-left_out true = refl
-left_out false = refl
+left_out t1 = grind arith
 
 taken_here : (ds : List Decl) (beans : List Effective) (t : List ℕ) (quals : List Qual) (bean : Effective)
     → is_taken (verdict ds beans t quals bean)
