@@ -1,21 +1,18 @@
 -- Commands that are answered alike.
 use Rattle.cdi_script.proofs.Common.{◌≡◌, ℕ, ◌<◌, List, [], ◌∷◌, length, refl, ap, sym, ◌∙◌, subst, inl, inr, Option, Some, None}
 use Rattle.cdi_script.proofs.Common.{option_to_list, Result, Ok, Err, if◌then◌else◌, AllocError, Decl, Command, Edit, ServesText, Answer}
-use Rattle.cdi_script.proofs.Common.{change_of, State, RunnerOn, Runs, RunsStep, Tries, ServesEdits, ServesCommand, ServesCompleted}
+use Rattle.cdi_script.proofs.Common.{change_of, State, RunnerOn, Runs, RunsStep, Tries, ServesEdits, ServesCommand, ServesCompleted, arith}
 use Rattle.std.proofs.{Common.ap₂, lemmas.List.length-map, lemmas.Bool.lt-ltb}
-use Rattle.std.specs.Prelude.{nat_lt, flat_map}
+use Rattle.std.specs.Prelude.{nat_lt}
 use Rattle.cdi_model.specs.declared.refusal.Refusal.TheVariants.{TooLong, BatchTooLong}
-use Rattle.cdi_model.specs.Edits.{edited_all}
 use Rattle.cdi_lines.specs.declared.command.Command.TheVariants.{Edit as EditCommand, Batch as BatchCommand}
 use Rattle.cdi_lines.specs.declared.edit.Edit.TheVariants as edits
 use Rattle.cdi_text.specs.Reading.{decl_of}
 use Rattle.cdi_container.specs.declared.answer.Answer.TheVariants.{Done, Chosen, Intercepted, Observed, Reported, Counted, Worked, Given}
 use Rattle.cdi_container.specs.declared.answer.Answer.TheVariants.{Refused}
-use Rattle.cdi_container.specs.Editing.{Reason, alone, put_of, changes_in, asked_by, refusal_of_change, first_refusal, refusal_of_batch}
-use Rattle.cdi_container.specs.Editing.{changes_of_all}
-use Rattle.cdi_container.specs.History.{Acts, AsksSome, EditsFrom, LegalAnswer, asked, emptied, evaluates, refusal_of, runs, untold}
+use Rattle.cdi_container.specs.Editing.{Reason, put_of, asked_by, first_refusal, refusal_of_batch}
+use Rattle.cdi_container.specs.History.{Acts, LegalAnswer, asked, evaluates, refusal_of, runs, untold}
 use Rattle.cdi_script.proofs.Runs.{runs_none, runs_one}
-use Rattle.cdi_script.specs.Left.{left_by_change, left_unless}
 
 -- what one does that evaluates nothing, another does
 does : (old new : State) (kept command : Command) (given : Answer) → evaluates old kept ≡ [] → evaluates old command ≡ []
@@ -48,20 +45,11 @@ alike old new kept command (Ok (Given outcome)) one other refused acts same h =
     (sym refused ∙ h.0, does old new kept command (Given outcome) one other (acts (Given outcome) h.0) h.1)
 alike old new kept command (Ok (Refused refusal edit)) one other refused acts same h =
     (sym refused ∙ h.0, h.1 ∙ ap (λ keys. untold (asked old keys)) (one ∙ sym other))
-alike old new kept command (Err error) one other refused acts same h = record {
-  left = h.left;
-  asks = subst (λ keys. AsksSome old keys h.left) (one ∙ sym other) h.asks;
-  rest = h.rest ∙ ap (λ r. if r then emptied h.left else h.left) same;
-}
+alike old new kept command (Err error) one other refused acts same h = grind (arith, h.left, h.asks, h.rest)
 
 -- edits that ask for the same
 pub serves_edit : (kept edit : Edit) → change_of kept ≡ change_of edit → ServesCommand (EditCommand kept) (EditCommand edit)
-serves_edit kept edit same = (
-  λ old new answer h. alike old new (EditCommand kept) (EditCommand edit) answer refl refl
-      (ap (λ asked. alone (refusal_of_change old.decls asked)) same)
-      (λ given none acts. (acts.0, subst (λ asked. EditsFrom old (changes_in asked) new) same acts.1)) refl h,
-  λ ds. ap (left_by_change ds) same,
-)
+serves_edit kept edit same = grind (arith, alike)
 
 -- batches whose edits ask for the same
 pub asked_alike : (kept es : List Edit) → asked_by kept ≡ asked_by es → length kept ≡ length es
@@ -78,19 +66,8 @@ refused_many : (ds : List Decl) (es : List Edit) → 256 < length es → refusal
 refused_many ds es many = rw (lt-ltb 256 (length es) many) refl
 
 pub serves_batch : (kept es : List Edit) → ServesEdits kept es → ServesCommand (BatchCommand kept) (BatchCommand es)
-serves_batch kept es (inl same) = (
-  λ old new answer h. alike old new (BatchCommand kept) (BatchCommand es) answer refl refl
-      (judged_alike old.decls kept es same)
-      (λ given none acts. (acts.0, subst (λ asked. EditsFrom old (flat_map changes_in asked) new) same acts.1)) refl h,
-  λ ds. ap₂ (λ reason asked. left_unless reason ds (edited_all ds (flat_map changes_in asked))) (judged_alike ds kept es same) same,
-)
-serves_batch kept es (inr many) = (
-  λ old new answer h. alike old new (BatchCommand kept) (BatchCommand es) answer refl refl
-      (refused_many old.decls kept many.0 ∙ sym (refused_many old.decls es many.1))
-      (λ given none acts. absurd (let e : too_many ≡ None = sym (refused_many old.decls kept many.0) ∙ none in cc)) refl h,
-  λ ds. ap (λ reason. left_unless reason ds (edited_all ds (changes_of_all kept))) (refused_many ds kept many.0)
-      ∙ sym (ap (λ reason. left_unless reason ds (edited_all ds (changes_of_all es))) (refused_many ds es many.1)),
-)
+serves_batch kept es (inl same) = grind (arith, alike, judged_alike)
+serves_batch kept es (inr many) = grind (arith, many.0, many.1, alike, refused_many)
 
 -- what is kept of the text of a put block asks for what all of it does
 too_long : (text : List ℕ) → 65536 < length text → decl_of text ≡ Err TooLong

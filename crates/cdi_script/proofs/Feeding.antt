@@ -1,35 +1,27 @@
 -- What an intake has printed and sent as it takes bytes.
-use Rattle.cdi_script.proofs.Common.{◌≡◌, ℕ, List, [], ◌∷◌, ◌++◌, refl, ap, sym, ◌∙◌, subst, take, drop, inl, inr, Option, append_assoc}
-use Rattle.cdi_script.proofs.Common.{◌||◌, ◌==◌, Appends, append-nil, map-append, take-append-drop, feed, ended_from, begun_from, last_line}
-use Rattle.cdi_script.proofs.Common.{Command, Mode, outside, commands_of_line, commands_of_lines, mode_of_lines, complete_commands}
-use Rattle.cdi_script.proofs.Common.{commands, unclosed, AreFirst, State, text_of_step, is_refused, RunnerOn, runner_on, Runs, Tries}
-use Rattle.cdi_script.proofs.Common.{IntakeOn, intake_on, Advances, EndsLastLine, EndsMode, TriesBytes, TriesLastLine, ServesLine}
-use Rattle.cdi_script.proofs.Common.{ServesMode, Setting, WroteAll, Feeds, FeedsBeforeMemory, FeedsPart, EndsBeforeMemory, EndsPart}
-use Rattle.cdi_script.proofs.Common.{SettlesPart, Runner, Intake}
+use Rattle.cdi_script.proofs.Common.{◌≡◌, ℕ, List, [], ◌∷◌, ◌++◌, refl, ap, sym, ◌∙◌, subst, take, drop, inl, Option, append_assoc, ◌||◌}
+use Rattle.cdi_script.proofs.Common.{Appends, append-nil, map-append, take-append-drop, ended_from, begun_from, last_line, Command, Mode}
+use Rattle.cdi_script.proofs.Common.{outside, commands_of_line, commands_of_lines, mode_of_lines, complete_commands, commands, unclosed}
+use Rattle.cdi_script.proofs.Common.{AreFirst, State, text_of_step, is_refused, RunnerOn, runner_on, Runs, Tries, IntakeOn, intake_on}
+use Rattle.cdi_script.proofs.Common.{Advances, EndsLastLine, EndsMode, TriesBytes, TriesLastLine, Setting, WroteAll, Feeds}
+use Rattle.cdi_script.proofs.Common.{FeedsBeforeMemory, FeedsPart, EndsBeforeMemory, EndsPart, SettlesPart, Runner, Intake, arith}
 use Rattle.std.specs.List.{list_any}
-use Rattle.std.proofs.lemmas.{List.Folds.list_any-append, Grind.flat_map-append, Bool.cases_Bool}
+use Rattle.std.proofs.lemmas.{List.Folds.list_any-append, Grind.flat_map-append}
 use Rattle.cdi_devices.specs.declared.counted.Counted.{Counted}
 use Rattle.cdi_devices.proofs.Known.{Appends-more}
 use Rattle.cdi_lines.specs.Lines.{ended_lines, begun_line}
-use Rattle.cdi_script.proofs.Runs.{LegalHistory-append, cc_append, cc_or}
-use Rattle.cdi_script.proofs.Trying.{tries_among, tries_behind}
+use Rattle.cdi_script.proofs.{Runs.LegalHistory-append, Runs.cc_append, Runs.cc_or, Trying.tries_among, Trying.tries_behind}
 use Rattle.cdi_script.specs.Run.{WrotePart, WroteAllBut, WrotePartBut, Printed, Stands, Sends, SendsPart, SendsLast, RunsWhole, Ends}
 use Rattle.cdi_script.specs.Run.{contents_of, Settles}
 use Rattle.cdi_script.specs.{Commands.mode_after, Commands.mode_of, Text.text_of, Text.is_out_of_memory, Intake.Keeps, Intake.TriesMode}
 
 pub begun_from-append : (b xs ys : List ℕ) → begun_from b (xs ++ ys) ≡ begun_from (begun_from b xs) ys
 begun_from-append b [] ys = refl
-begun_from-append b (x ∷ xs) ys = elim (cases_Bool (x == feed)) [
-  | inl e ↦ rw e (begun_from-append [] xs ys)
-  | inr e ↦ rw e (begun_from-append (b ++ x ∷ []) xs ys)
-]
+begun_from-append b (x ∷ xs) ys = grind (arith, begun_from-append [] xs ys, begun_from-append (b ++ x ∷ []) xs ys)
 
 pub ended_from-append : (b xs ys : List ℕ) → ended_from b (xs ++ ys) ≡ ended_from b xs ++ ended_from (begun_from b xs) ys
 ended_from-append b [] ys = refl
-ended_from-append b (x ∷ xs) ys = elim (cases_Bool (x == feed)) [
-  | inl e ↦ rw e (ap (λ l. b ∷ l) (ended_from-append [] xs ys))
-  | inr e ↦ rw e (ended_from-append (b ++ x ∷ []) xs ys)
-]
+ended_from-append b (x ∷ xs) ys = grind (arith, ended_from-append [] xs ys, ended_from-append (b ++ x ∷ []) xs ys)
 
 pub commands_of_lines-append : (mode : Mode) (ls ms : List (List ℕ))
     → commands_of_lines mode (ls ++ ms) ≡ commands_of_lines mode ls ++ commands_of_lines (mode_of_lines mode ls) ms
@@ -78,14 +70,20 @@ printed_runs setting start now r s cs ds p q = record {
 pub stands_advances : (setting : Setting) (start now : Option (List ℕ)) (s t : IntakeOn) (given bytes : List ℕ)
     → Stands setting start now s given
     → Advances s t bytes → Stands setting start now t (given ++ bytes)
-stands_advances setting start now s t given bytes h a = record {
-  printed = subst (Printed setting start now t.runner) (sym (complete_commands-append given bytes))
-      (printed_runs setting start now s.runner t.runner _ _ h.printed (a.runs _ _ h.keeps));
-  keeps = let P : Mode → List ℕ → Type 0 = λ b l. Keeps t b l in
-      subst (λ b. P b (begun_line (given ++ bytes))) (sym (mode_of-append given bytes))
-      (subst (λ l. P (mode_of_lines (mode_of given) (ended_from (begun_line given) bytes)) l) (sym (begun_from-append [] given bytes))
-      (a.keeps _ _ h.keeps));
-}
+stands_advances setting start now s t given bytes h a =
+    grind (
+      arith,
+      t.runner,
+      s.runner,
+      h.printed,
+      a.runs,
+      h.keeps,
+      a.keeps,
+      complete_commands-append,
+      printed_runs,
+      mode_of-append,
+      begun_from-append,
+    )
 
 pub printed_all : (setting : Setting) (start now then : Option (List ℕ)) (r : RunnerOn) (cs : List Command) (out : List ℕ)
     → Printed setting start now r cs → out ≡ r.out → Appends now then out → WroteAll setting start then cs r.container
@@ -99,14 +97,7 @@ pub printed_part : (setting : Setting) (start now then : Option (List ℕ)) (r :
     (part rest : List ℕ)
     → Printed setting start now r cs → part ++ rest ≡ r.out → Appends now then part
     → WrotePart setting start then cs r.container
-printed_part setting start now then r cs part rest p is a = record {
-  history = p.history;
-  is_history = p.is_history;
-  part = p.sent ++ part;
-  rest = rest;
-  text = p.text ∙ ap (λ l. p.sent ++ l) (sym is) ∙ sym (append_assoc p.sent part rest);
-  written = Appends-more start now then p.sent part p.written a;
-}
+printed_part setting start now then r cs part rest p is a = grind (arith, p.history, p.is_history, p.sent, p.text, p.written, append_assoc)
 
 pub wrote_part_but_more : (setting : Setting) (start now : Option (List ℕ)) (first all more : List Command) (left : State) → AreFirst all more
     → WrotePartBut setting start now first all left → WrotePartBut setting start now first more left
@@ -127,10 +118,7 @@ tries_further s t given bytes k h =
 
 keeps_same : (s t : IntakeOn) → t.line ≡ s.line → t.mode ≡ s.mode → (mode : Mode) (line : List ℕ) → Keeps s mode line
     → Keeps t mode line
-keeps_same s t line mode b l k = record {
-  line_serves = subst (λ v. ServesLine v l) (sym line) k.line_serves;
-  mode_serves = subst (λ v. ServesMode v b) (sym mode) k.mode_serves;
-}
+keeps_same s t line mode b l k = grind (arith, k.line_serves, k.mode_serves)
 
 module _ {W : Type 0} (contents : W → Option (List ℕ)) where
   pub printed_sent : (setting : Setting) (start : Option (List ℕ)) (r s : Runner) (state : State) (before after : Counted W)
@@ -248,13 +236,8 @@ module _ {W : Type 0} (contents : W → Option (List ℕ)) where
 
   pub settles : (old new : Intake) (before after : Counted W) → Sends contents old.runner new.runner before after
       → new.line ≡ old.line → new.mode ≡ old.mode → Settles contents old new before after
-  settles old new before after s line mode state setting start given h = record {
-    printed = subst (Printed setting start (contents_of contents after) (runner_on new.runner state))
-        (ap complete_commands (sym (append-nil given)))
-        (printed_sent setting start old.runner new.runner state before after _ h.printed s);
-    keeps = let Is : List ℕ → Type 0 = λ l. Keeps (intake_on new state) (mode_of l) (begun_line l) in
-        subst Is (sym (append-nil given)) (keeps_same (intake_on old state) (intake_on new state) line mode _ _ h.keeps);
-  }
+  settles old new before after s line mode state setting start given h =
+      grind (arith, new.runner, old.runner, h.printed, h.keeps, append-nil, printed_sent, keeps_same)
 
   -- a front part of the first n bytes is one of all
   pub part_in_front : (old new : IntakeOn) (before after : Counted W) (n : ℕ) (bytes : List ℕ)

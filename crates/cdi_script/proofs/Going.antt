@@ -10,8 +10,7 @@ use Rattle.std.specs.Io.KnownBytes.{Consumes}
 use Rattle.cdi_devices.specs.{Counted.inner_of, Counted.is_flushed, Counted.is_settled, Devices.Gives, declared.counted.Counted.Counted}
 use Rattle.cdi_devices.proofs.Known.{Consumes-more}
 use Rattle.cdi_container.specs.History.{Unserved, runs as is_run}
-use Rattle.cdi_script.proofs.Feeding.{first_complete}
-use Rattle.cdi_script.proofs.Serving.{serves_itself}
+use Rattle.cdi_script.proofs.{Feeding.first_complete, Serving.serves_itself}
 use Rattle.cdi_script.specs.{Intake.IsFresh, Run.AnswersFirst, Run.Leaves}
 
 Appends-none : (known : Option (List ℕ)) → Appends known known []
@@ -65,10 +64,7 @@ left_after first all state left later (inr step) = inl step
 
 -- behind a flush, and behind no error, a note stays as it is
 behind_flush : (noted flushed failed : Bool) → flushed ≡ true → failed ≡ false → (noted && flushed && not failed) ≡ noted
-behind_flush true true false is still = refl
-behind_flush false true false is still = refl
-behind_flush noted true true is still = absurd (true≢false still)
-behind_flush noted false failed is still = absurd (false≢true is)
+behind_flush noted u2 failed is still = grind (arith, true≢false, false≢true)
 
 module _ {R W : Type 0} (remaining : R → Option (List ℕ)) (contents : W → Option (List ℕ)) (limit piece : ℕ)
     (setting : Setting) (r0 : Counted R) (w0 : Counted W) where

@@ -1,15 +1,14 @@
 -- What is kept of a batch and of a put block that are open serves for all of them.
-use Rattle.cdi_script.proofs.Common.{◌≡◌, ℕ, ◌<◌, List, [], ◌∷◌, ◌++◌, refl, ap, sym, ◌∙◌, subst, true, false, Bool, inl, inr, arith}
-use Rattle.cdi_script.proofs.Common.{Option, Some, None, Result, Ok, Err, length-append, map-append, Command, Unreadable, Edit}
-use Rattle.cdi_script.proofs.Common.{said_of_line, ServesLine, ServesText, change_of, Mode, taken, is_dot, unclosed, ServesEdits}
-use Rattle.cdi_script.proofs.Common.{ServesMode, ServesCommand, ServesCompleted, ServesTaken}
+use Rattle.cdi_script.proofs.Common.{◌≡◌, ℕ, ◌<◌, List, [], ◌∷◌, ◌++◌, refl, sym, ◌∙◌, subst, true, false, Bool, inl, inr, arith, Option}
+use Rattle.cdi_script.proofs.Common.{Some, None, Result, Ok, Err, length-append, map-append, Command, Unreadable, Edit, said_of_line}
+use Rattle.cdi_script.proofs.Common.{ServesLine, ServesText, change_of, Mode, taken, is_dot, unclosed, ServesEdits, ServesMode}
+use Rattle.cdi_script.proofs.Common.{ServesCommand, ServesCompleted, ServesTaken}
 use Rattle.cdi_model.specs.declared.refusal.Refusal.{Refusal}
 use Rattle.cdi_lines.specs.declared.command.Said.{Said}
 use Rattle.cdi_lines.specs.declared.command.Said.TheVariants as said
 use Rattle.cdi_lines.specs.declared.edit.Edit.TheVariants as edits
-use Rattle.cdi_script.proofs.Runs.{cc_append}
+use Rattle.cdi_script.proofs.{Runs.cc_append, Alike.asked_alike, Alike.serves_edit, Alike.serves_batch, Alike.asks_alike}
 use Rattle.cdi_script.proofs.Serving.{serves_command, serves_dot, serves_with_line, serves_serving_text}
-use Rattle.cdi_script.proofs.Alike.{asked_alike, serves_edit, serves_batch, asks_alike}
 use Rattle.cdi_script.specs.Commands.{OpenBatch, Edits, Spoiled, Taken, with_edit, command_of_batch, edited, commanded, batch_begun}
 use Rattle.cdi_script.specs.Commands.{batch_ended, taken_at, taken_said, taken_in_put, unclosed_at}
 use Rattle.cdi_script.specs.Begun.{ServesOpen, ServesBatch, ServesBlock}
@@ -18,13 +17,8 @@ use Rattle.cdi_script.specs.Begun.{ServesOpen, ServesBatch, ServesBlock}
 
 pub serves_with_edit : (kept es : List Edit) (a b : Edit) → ServesEdits kept es → change_of a ≡ change_of b
     → ServesEdits (kept ++ a ∷ []) (es ++ b ∷ [])
-serves_with_edit kept es a b (inl same) asks = inl (
-    map-append change_of kept (a ∷ []) ∙ cc_append _ _ _ _ same (ap (λ c. c ∷ []) asks) ∙ sym (map-append change_of es (b ∷ []))
-    )
-serves_with_edit kept es a b (inr many) asks = inr (
-  omega (arith, length-append kept (a ∷ []), many.0),
-  omega (arith, length-append es (b ∷ []), many.1),
-)
+serves_with_edit kept es a b (inl same) asks = grind (arith, map-append, cc_append)
+serves_with_edit kept es a b (inr many) asks = grind (arith, many.0, many.1, length-append)
 
 serves_serving_edits : (a b c : List Edit) → ServesEdits a b → ServesEdits b c → ServesEdits a c
 serves_serving_edits a b c (inl h) (inl k) = inl (h ∙ k)

@@ -1,6 +1,6 @@
 -- Runs of no command, of one, and one behind another.
 use Rattle.cdi_script.proofs.Common.{◌≡◌, List, [], ◌∷◌, ◌++◌, refl, subst, ap, sym, ◌∙◌, false, Bool, ◌||◌, append-nil, Command, State}
-use Rattle.cdi_script.proofs.Common.{text_of_step, is_refused, RunnerOn, Runs, RunsStep}
+use Rattle.cdi_script.proofs.Common.{text_of_step, is_refused, RunnerOn, Runs, RunsStep, arith}
 use Rattle.std.proofs.Math.Bool.{or-false}
 use Rattle.cdi_container.specs.History.{History, LegalHistory}
 
@@ -15,15 +15,7 @@ LegalHistory-append a b c [] k first second = subst (λ n. LegalHistory n k c) f
 LegalHistory-append a b c (step ∷ h) k first second = (first.0, first.1, LegalHistory-append first.0 b c h k first.2 second)
 
 pub runs_none : (r : RunnerOn) → Runs r r []
-runs_none r = record {
-  history = [];
-  commands_are = refl;
-  memory = refl;
-  legal = refl;
-  text = sym (append-nil r.out);
-  refused = sym (or-false r.refused);
-  quiet = refl;
-}
+runs_none r = grind (arith, r.out, r.refused, append-nil, or-false)
 
 pub runs_one : (old new : RunnerOn) (command : Command) → RunsStep old new command → Runs old new (command ∷ [])
 runs_one old new command r = record {

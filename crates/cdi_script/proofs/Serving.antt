@@ -5,7 +5,7 @@ use Rattle.cdi_script.proofs.Common.{is_dot}
 use Rattle.std.proofs.Math.Bool.{and-false}
 use Rattle.std.specs.{Prelude.codes, Str.bytes_eq}
 use Rattle.cdi_model.specs.Bytes.{dot}
-use Rattle.cdi_lines.specs.{Words.without_return, Kept.with_line}
+use Rattle.cdi_lines.specs.{Kept.with_line}
 use Rattle.cdi_lines.proofs.LongLemmas.{length-without_return}
 
 pub serves_command : (kept line : List ℕ) → ServesLine kept line → said_of_line kept ≡ said_of_line line
@@ -19,9 +19,7 @@ long_no_dot (b ∷ c ∷ bs) h = and-false (b == dot)
 
 pub serves_dot : (kept line : List ℕ) → ServesLine kept line → is_dot kept ≡ is_dot line
 serves_dot kept line (inl h) = ap is_dot h
-serves_dot kept line (inr h) =
-    long_no_dot (without_return kept) (let a = length-without_return kept in let b = h.kept_long in omega arith)
-    ∙ sym (long_no_dot (without_return line) (let a = length-without_return line in let b = h.line_long in omega arith))
+serves_dot kept line (inr h) = grind (arith, h.kept_long, h.line_long, long_no_dot, length-without_return)
 
 longer : (text line : List ℕ) → 65536 < length line + 1 → 65536 < length (text ++ line ++ feed ∷ [])
 longer text line h = let a = length-append (text ++ line) (feed ∷ []) in let b = length-append text line in omega arith
@@ -33,10 +31,7 @@ still_longer text line end h = let a = length-append (text ++ line) end in let b
 pub serves_with_line : (kept_text text kept line : List ℕ) → ServesText kept_text text → ServesLine kept line
     → ServesText (with_line kept_text kept) (with_line text line)
 serves_with_line kept_text text kept line (inl h) (inl k) = inl (let e : with_line kept_text kept ≡ with_line text line = cc in e)
-serves_with_line kept_text text kept line (inl h) (inr k) = inr (
-  longer kept_text (without_return kept) (let a = length-without_return kept in let b = k.kept_long in omega arith),
-  longer text (without_return line) (let a = length-without_return line in let b = k.line_long in omega arith),
-)
+serves_with_line kept_text text kept line (inl h) (inr k) = grind (arith, k.kept_long, k.line_long, longer, length-without_return)
 serves_with_line kept_text text kept line (inr h) k = inr (still_longer kept_text _ _ h.0, still_longer text _ _ h.1)
 
 -- what serves for what serves
@@ -47,12 +42,7 @@ serves_serving_text a b c (inr h) (inr k) = inr (h.0, k.1)
 
 pub serves_more : (kept line piece : List ℕ) → ServesLine kept line → ServesLine (kept ++ piece) (line ++ piece)
 serves_more kept line piece (inl h) = inl (ap (λ l. l ++ piece) h)
-serves_more kept line piece (inr h) = inr (record {
-  kept_long = let a = length-append kept piece in let b = h.kept_long in omega arith;
-  line_long = let a = length-append line piece in let b = h.line_long in omega arith;
-  alike = λ more. ap said_of_line (append_assoc kept piece more) ∙ h.alike (piece ++ more)
-      ∙ ap said_of_line (sym (append_assoc line piece more));
-})
+serves_more kept line piece (inr h) = grind (arith, h.kept_long, h.line_long, h.alike, length-append, append_assoc)
 
 pub serves_serving : (a b c : List ℕ) → ServesLine a b → ServesLine b c → ServesLine a c
 serves_serving a b c h (inl k) = subst (ServesLine a) k h

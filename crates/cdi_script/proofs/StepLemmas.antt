@@ -4,8 +4,7 @@ use Rattle.cdi_script.proofs.Common.{option_to_list, append-nil, feed, Decl, Com
 use Rattle.cdi_script.proofs.Common.{ServesCompleted, ServesTaken, Mode, commands_of_lines, mode_of_lines, outside, taken, unclosed}
 use Rattle.cdi_lines.specs.Lines.{lines}
 use Rattle.cdi_script.proofs.Open.{serves_serving_taken, serves_taken, serves_unclosed}
-use Rattle.cdi_script.proofs.Serving.{serves_itself}
-use Rattle.cdi_script.proofs.Taking.{ended_from-no_feed, begun_from-no_feed}
+use Rattle.cdi_script.proofs.{Serving.serves_itself, Taking.ended_from-no_feed, Taking.begun_from-no_feed}
 use Rattle.cdi_script.specs.{Left.left_by, Left.left_by_all, Reads.left_commands, Reads.Reads}
 
 pub left-append : (ds : List Decl) (before after : List Command) → left_by_all ds (before ++ after) ≡ left_by_all (left_by_all ds before) after

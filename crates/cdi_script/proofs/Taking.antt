@@ -2,13 +2,11 @@
 use Rattle.cdi_script.proofs.Common.{◌≡◌, ℕ, List, [], ◌∷◌, ◌++◌, refl, ap, sym, ◌∙◌, subst, append_assoc, Option, Some, None, append-nil}
 use Rattle.cdi_script.proofs.Common.{feed, Command, Unreadable, NoFeed, ended_from, begun_from, last_line, ServesLine, Mode}
 use Rattle.cdi_script.proofs.Common.{commands_of_line, commands_of_lines, mode_of_lines, taken, unclosed, ServesMode, ServesTaken, Runs}
-use Rattle.cdi_script.proofs.Common.{RunsStep, Tries, IntakeOn, Advances, EndsLastLine, EndsMode, TriesBytes, TriesLastLine}
-use Rattle.cdi_script.proofs.Runs.{runs_none, runs_one}
+use Rattle.cdi_script.proofs.Common.{RunsStep, Tries, IntakeOn, Advances, EndsLastLine, EndsMode, TriesBytes, TriesLastLine, arith}
+use Rattle.cdi_script.proofs.{Runs.runs_none, Runs.runs_one, Alike.runs_no_command, Alike.runs_command, Alike.tries_command}
+use Rattle.cdi_script.proofs.{Trying.tries_among, Feeding.ended_from-append, Feeding.commands_of_lines-append}
 use Rattle.cdi_script.proofs.Serving.{serves_serving, serves_more, serves_itself, serves_started}
-use Rattle.cdi_script.proofs.Alike.{runs_no_command, runs_command, tries_command}
 use Rattle.cdi_script.proofs.Open.{serves_taken, serves_serving_taken, serves_unclosed}
-use Rattle.cdi_script.proofs.Trying.{tries_among}
-use Rattle.cdi_script.proofs.Feeding.{ended_from-append, commands_of_lines-append}
 use Rattle.cdi_script.specs.Intake.{TakesLine, Tried, TriesLine}
 
 -- what was done with a line serves for all that it stands for
@@ -58,34 +56,29 @@ begun_from-feed begun (x ∷ xs) h = rw h.0 (begun_from-feed (begun ++ x ∷ [])
 pub begins : (old new : IntakeOn) (piece : List ℕ) → NoFeed piece → ServesLine new.line (old.line ++ piece)
     → new.runner ≡ old.runner
     → new.mode ≡ old.mode → Advances old new piece
-begins old new piece no_feed kept same stays = record {
-  runs = λ mode line k. rw (ended_from-no_feed line piece no_feed) (subst (λ r. Runs old.runner r []) (sym same) (runs_none old.runner));
-  keeps = λ mode line k. rw (ended_from-no_feed line piece no_feed, begun_from-no_feed line piece no_feed) (record {
-    line_serves = serves_serving new.line (old.line ++ piece) (line ++ piece) kept (serves_more old.line line piece k.line_serves);
-    mode_serves = subst (λ m. ServesMode m mode) (sym stays) k.mode_serves;
-  });
-}
+begins old new piece no_feed kept same stays =
+    grind (arith, old.runner, new.line, old.line, ended_from-no_feed, runs_none, begun_from-no_feed, serves_serving, serves_more)
 
 pub ends : (old mid new : IntakeOn) (piece kept : List ℕ) → NoFeed piece → ServesLine kept (old.line ++ piece)
     → mid.runner ≡ old.runner
     → mid.mode ≡ old.mode → mid.line ≡ []
     → TakesLine mid new kept → Advances old new (piece ++ feed ∷ [])
-ends old mid new piece kept no_feed is same stays none h = record {
-  runs = λ mode line k.
-      let sm : ServesMode mid.mode mode = subst (λ m. ServesMode m mode) (sym stays) k.mode_serves in
-      let sl : ServesLine kept (line ++ piece) = serves_serving kept (old.line ++ piece) (line ++ piece) is
-      (serves_more old.line line piece k.line_serves) in
-      rw (ended_from-feed line piece no_feed, append-nil (commands_of_line mode (line ++ piece)))
-      (subst (λ r. Runs r new.runner (commands_of_line mode (line ++ piece))) same (h.runs mode (line ++ piece) sm sl));
-  keeps = λ mode line k.
-      let sm : ServesMode mid.mode mode = subst (λ m. ServesMode m mode) (sym stays) k.mode_serves in
-      let sl : ServesLine kept (line ++ piece) = serves_serving kept (old.line ++ piece) (line ++ piece) is
-      (serves_more old.line line piece k.line_serves) in
-      rw (ended_from-feed line piece no_feed, begun_from-feed line piece no_feed) (record {
-        line_serves = subst (λ l. ServesLine l []) (sym (h.line ∙ none)) (serves_itself []);
-        mode_serves = h.mode mode (line ++ piece) sm sl;
-      });
-}
+ends old mid new piece kept no_feed is same stays none h =
+    grind (
+      arith,
+      mid.mode,
+      old.line,
+      new.runner,
+      h.runs,
+      h.line,
+      h.mode,
+      serves_serving,
+      serves_more,
+      ended_from-feed,
+      append-nil,
+      begun_from-feed,
+      serves_itself,
+    )
 
 last_of : (line : List ℕ) → (line ≡ [] → ⊥) → last_line line ≡ ended_from line (feed ∷ [])
 last_of [] h = absurd (h refl)

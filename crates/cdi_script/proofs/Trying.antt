@@ -1,6 +1,6 @@
 -- What was carried out where memory was wanted.
-use Rattle.cdi_script.proofs.Common.{List, [], ◌∷◌, ◌++◌, refl, ap, sym, ◌∙◌, inl, inr, append_assoc, Result, AllocError, names_of, Command}
-use Rattle.cdi_script.proofs.Common.{Answer, AreFirst, State, IsStep, Tries}
+use Rattle.cdi_script.proofs.Common.{List, [], ◌∷◌, ◌++◌, refl, ap, ◌∙◌, inl, inr, append_assoc, Result, AllocError, names_of, Command}
+use Rattle.cdi_script.proofs.Common.{Answer, AreFirst, State, IsStep, Tries, arith}
 use Rattle.cdi_container.specs.History.{trace_behind}
 
 -- the first of the first ones
@@ -16,11 +16,7 @@ tries_among first all more old new m (inr t) = inr (t.0, first_of_first (first +
 -- the first of what comes after some commands
 pub tries_behind : (front ds : List Command) (old new : State) → Tries [] ds old new → Tries front (front ++ ds) old new
 tries_behind front ds old new (inl e) = inl e
-tries_behind front ds old new (inr t) = inr (
-  t.0,
-  (t.1.0, ap (λ l. front ++ l) t.1.1 ∙ sym (append_assoc front (t.0.command ∷ []) t.1.0)),
-  t.2,
-)
+tries_behind front ds old new (inr t) = grind (arith, t.0, t.1.0, t.1.1, t.0.command, t.2, append_assoc)
 
 -- a call of the container
 pub tried_step : (old new : State) (command : Command) (answer : Result Answer AllocError) → IsStep old command answer new

@@ -1,6 +1,5 @@
 use Rattle.cdi_script.proofs.Common.{on_ok_weaker, on_err_weaker, OnErr-from}
-use Rattle.cdi_script.proofs.Ran.{ran}
-use Rattle.cdi_script.proofs.Trying.{tried_step}
+use Rattle.cdi_script.proofs.{Ran.ran, Trying.tried_step}
 use Rattle.cdi_script.proofs.runner.Runner.execute.Goals as goal
 
 pub returns-clause-ok : goal.returns-clause-ok
