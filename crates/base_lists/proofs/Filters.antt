@@ -23,6 +23,7 @@ filter-both p q [] = refl
 filter-both p q (x ∷ xs) = by (p x) (filter-both p q xs)
   where
     by : (b : Bool) → filter (λ y. p y && q y) xs ≡ filter q (filter p xs)
-        → cond (b && q x) (x ∷ filter (λ y. p y && q y) xs) (filter (λ y. p y && q y) xs) ≡ filter q (cond b (x ∷ filter p xs) (filter p xs))
+        → cond (b && q x) (x ∷ filter (λ y. p y && q y) xs) (filter (λ y. p y && q y) xs)
+        ≡ filter q (cond b (x ∷ filter p xs) (filter p xs))
     by true rest = ap (λ ys. cond (q x) (x ∷ ys) ys) rest
     by false rest = rest

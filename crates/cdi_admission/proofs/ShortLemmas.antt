@@ -56,7 +56,8 @@ lists_of_params d = flat_map lists_of_producer d.producers ++ map (λ o. point_n
 short-bean : (d : BeanDecl) → has_long_list (decls.Bean d) ≡ false → IsShortBean d
 short-bean d h =
     let both = or_parts (list_any is_long (name_lists (decls.Bean d))) (has_long_part (decls.Bean d)) h in
-    let parts = parts-of_six (is_long_one d.construct) (is_long_one d.post) (is_long_one d.pre) (list_any (λ m. is_long_part m.part) d.methods)
+    let parts = parts-of_six (is_long_one d.construct) (is_long_one d.post) (is_long_one d.pre)
+    (list_any (λ m. is_long_part m.part) d.methods)
     (list_any (λ p. is_long_part p.part) d.producers) (list_any (λ o. is_long_part o.part) d.observers) both.1 in
     let lists = append-none is_long (lists_of_attributes d.attributes) (entry_names d ++ lists_of_params d) both.0 in
     let params = append-none is_long (flat_map lists_of_producer d.producers) (map (λ (o : ObserverDecl). point_names o.params) d.observers)
@@ -100,7 +101,7 @@ short-decl d h = tt
 
 -- what is not refused has no long list
 not-refused : (a b c : Bool) → cond a (Some BadName) (cond b (Some Twice) (cond c (Some ListTooLong) None)) ≡ None → c ≡ false
-not-refused t1 b c e = grind (arith, none-some)
+not-refused a b c e = grind (arith, none-some)
 
 pub short_admitted : (d : Decl) → refusal_of_decl d ≡ None → HasShortLists d
 unfolding refusal_of_decl

@@ -50,7 +50,8 @@ unfolding aim_for
 aims ds es t quals message choice same is = λ j. aim_of_choice (sym same j) message (sym is j)
 
 -- the positions of the observer methods of an event
-pub positions_are : (ds es : List Decl) (t : List ℕ) (quals : List Qual) (ids : List ObserverId) → es ≡ ds → ids ≡ notified ds (beans ds) t quals
+pub positions_are : (ds es : List Decl) (t : List ℕ) (quals : List Qual) (ids : List ObserverId) → es ≡ ds
+    → ids ≡ notified ds (beans ds) t quals
     → map (notified_as es (beans es)) ids ≡ notified_at ds (beans ds) t quals
 unfolding notified_at
 positions_are ds es t quals ids same are = λ j. map (notified_as (same j) (beans (same j))) (are j)

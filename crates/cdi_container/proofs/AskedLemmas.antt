@@ -55,7 +55,8 @@ run-own ds count known key none h = rw none (rw h refl)
 
 -- ---- what is evaluated of a view
 
-pub asked_by : (old new : Live) (book : List Promised) (wired after : Bool) (keys : List Key) → new.decls ≡ old.decls → new.counts ≡ old.counts
+pub asked_by : (old new : Live) (book : List Promised) (wired after : Bool) (keys : List Key) → new.decls ≡ old.decls
+    → new.counts ≡ old.counts
     → KnowsAfter keys old new → (wired ≡ true → after ≡ true) → IsAsked keys (deployed_on old book wired) (deployed_on new book after)
 asked_by old new book wired after keys same counted knows stays = grind (arith, knows.known, knows.work, new.staged)
 
@@ -121,36 +122,46 @@ module _ (d : Deployed) (t : List ℕ) (quals : List Qual) where
   event_keys = keys_of_event d.decls d.book t quals
 
   -- the deployment has faults
-  pub use-faulty : (e : Deployed) (count : ℕ) → count ≡ length (faults d.decls d.book) → count ≢ 0 → IsAsked (wanted d.decls) d e → IsAsked use_keys d e
+  pub use-faulty : (e : Deployed) (count : ℕ) → count ≡ length (faults d.decls d.book) → count ≢ 0 → IsAsked (wanted d.decls) d e
+      → IsAsked use_keys d e
   unfolding keys_of_use
-  use-faulty e count is many h = asked-alike use_keys (wanted d.decls) d e (run-faulty d.decls (length (faults d.decls d.book)) (are_known d.decls t quals) (choice_key t quals) (ap (λ n. n == 0) (sym is) ∙ not-none count many)) h
+  use-faulty e count is many h = asked-alike use_keys (wanted d.decls) d e
+      (run-faulty d.decls (length (faults d.decls d.book)) (are_known d.decls t quals) (choice_key t quals)
+      (ap (λ n. n == 0) (sym is) ∙ not-none count many)) h
 
-  pub event-faulty : (e : Deployed) (count : ℕ) → count ≡ length (faults d.decls d.book) → count ≢ 0 → IsAsked (wanted d.decls) d e → IsAsked event_keys d e
+  pub event-faulty : (e : Deployed) (count : ℕ) → count ≡ length (faults d.decls d.book) → count ≢ 0 → IsAsked (wanted d.decls) d e
+      → IsAsked event_keys d e
   unfolding keys_of_event
-  event-faulty e count is many h = asked-alike event_keys (wanted d.decls) d e (run-faulty d.decls (length (faults d.decls d.book)) (can_be_fired d.decls t quals) (EventKey t quals) (ap (λ n. n == 0) (sym is) ∙ not-none count many)) h
+  event-faulty e count is many h = asked-alike event_keys (wanted d.decls) d e
+      (run-faulty d.decls (length (faults d.decls d.book)) (can_be_fired d.decls t quals) (EventKey t quals)
+      (ap (λ n. n == 0) (sym is) ∙ not-none count many)) h
 
   -- what is named is not known
   pub use-unknown : (e : Deployed) → are_known d.decls t quals ≡ false → IsAsked (wanted d.decls) d e → IsAsked use_keys d e
   unfolding keys_of_use
-  use-unknown e none h = asked-alike use_keys (wanted d.decls) d e (run-unknown d.decls (length (faults d.decls d.book)) (are_known d.decls t quals) (choice_key t quals) none) h
+  use-unknown e none h = asked-alike use_keys (wanted d.decls) d e
+      (run-unknown d.decls (length (faults d.decls d.book)) (are_known d.decls t quals) (choice_key t quals) none) h
 
   pub event-unknown : (e : Deployed) → can_be_fired d.decls t quals ≡ false → IsAsked (wanted d.decls) d e → IsAsked event_keys d e
   unfolding keys_of_event
-  event-unknown e none h = asked-alike event_keys (wanted d.decls) d e (run-unknown d.decls (length (faults d.decls d.book)) (can_be_fired d.decls t quals) (EventKey t quals) none) h
+  event-unknown e none h = asked-alike event_keys (wanted d.decls) d e
+      (run-unknown d.decls (length (faults d.decls d.book)) (can_be_fired d.decls t quals) (EventKey t quals) none) h
 
   -- its own key comes after
   pub use-own : (e f : Deployed) → IsInOrder d.decls d.known → length (faults d.decls d.book) ≡ 0 → are_known d.decls t quals ≡ true
       → IsAsked (wanted d.decls) d e → IsAsked (choice_key t quals ∷ []) e f → IsAsked use_keys d f
   unfolding keys_of_use
   use-own e f ordered none known first own =
-      asked-alike use_keys (with_key (wanted d.decls) (choice_key t quals)) d f (run-own d.decls (length (faults d.decls d.book)) (are_known d.decls t quals) (choice_key t quals) none known)
+      asked-alike use_keys (with_key (wanted d.decls) (choice_key t quals)) d f
+      (run-own d.decls (length (faults d.decls d.book)) (are_known d.decls t quals) (choice_key t quals) none known)
       (then_asks d e f (choice_key t quals) ordered first own)
 
   pub event-own : (e f : Deployed) → IsInOrder d.decls d.known → length (faults d.decls d.book) ≡ 0 → can_be_fired d.decls t quals ≡ true
       → IsAsked (wanted d.decls) d e → IsAsked (EventKey t quals ∷ []) e f → IsAsked event_keys d f
   unfolding keys_of_event
   event-own e f ordered none known first own =
-      asked-alike event_keys (with_key (wanted d.decls) (EventKey t quals)) d f (run-own d.decls (length (faults d.decls d.book)) (can_be_fired d.decls t quals) (EventKey t quals) none known)
+      asked-alike event_keys (with_key (wanted d.decls) (EventKey t quals)) d f
+      (run-own d.decls (length (faults d.decls d.book)) (can_be_fired d.decls t quals) (EventKey t quals) none known)
       (then_asks d e f (EventKey t quals) ordered first own)
 
   -- some of the wanted ones were evaluated, or all of them
@@ -190,7 +201,8 @@ some-all keys d e apart h = record { some = keys; among = all-pass (has_key keys
 
 -- ---- how a call ends
 
-pub ends_without_memory : {X : Type 0} (r : Result X Error) (keys : List Key) (d e : Deployed) → IsErrAnd r (λ error. error ≡ errors.OutOfMemory)
+pub ends_without_memory : {X : Type 0} (r : Result X Error) (keys : List Key) (d e : Deployed)
+    → IsErrAnd r (λ error. error ≡ errors.OutOfMemory)
     → IsAskedSome keys d e → Evaluates keys r d e
 ends_without_memory (Ok x) keys d e out some = absurd out
 ends_without_memory (Err errors.OutOfMemory) keys d e out some = some

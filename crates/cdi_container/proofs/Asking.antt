@@ -67,7 +67,8 @@ pub chain_told : (old new : State) (bean : List ℕ) (place : BeanPlace) (names 
 chain_told old new bean place names around left = grind arith
 
 pub chain_left : (old new : State) (bean : List ℕ) (place : BeanPlace) (error : Error)
-    → Answers (failure (List (List ℕ)) error) (chain_of old.decls bean place) → new ≡ left_by error old → ChainStep old bean place (Err error) new
+    → Answers (failure (List (List ℕ)) error) (chain_of old.decls bean place) → new ≡ left_by error old
+    → ChainStep old bean place (Err error) new
 chain_left old new bean place errors.OutOfMemory said left = record { left = old; asks = asks_none old _; rest = left }
 chain_left old new bean place (errors.Refused refusal) said left = grind arith
 
@@ -104,7 +105,8 @@ refused_by run said errors.OutOfMemory answer = tt
 refused_by run said (errors.Refused refusal) answer = ap (run_by run) answer
 
 -- what is left where a run does not begin
-pub run_left : (d e : Deployed) (names told : Names) (m begun : Moment) (keys : List Key) (begins : Result Run Refusal) (error given : Error)
+pub run_left : (d e : Deployed) (names told : Names) (m begun : Moment) (keys : List Key) (begins : Result Run Refusal)
+    (error given : Error)
     (new : State) → begun ≡ beginning m.standing → IsRefusedBy begins error → Evaluates keys (failure Outcome error) d e → given ≡ error
     → new ≡ unplayed error (standing_at e told begun) → RunAnswers (standing_at d names m) keys begins (Err given) new
 run_left d e names told m begun keys begins error given new began refused asks same left =

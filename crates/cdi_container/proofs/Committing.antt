@@ -81,7 +81,7 @@ commits old new book wired within is = by old.staged refl is
 -- what is told by names from before, if there are any, and is nothing if there are none
 told_before : (b : Bool) (before now : Names) (trace : List Entry) → (b ≡ false → trace ≡ [])
     → text_of_entries (unwrap_or (if b then Some before else None) now) trace ≡ text_of_entries before trace
-told_before t1 before now trace none = grind arith
+told_before b before now trace none = grind arith
 
 -- what these declarations stage
 abbrev next_on : Deployed → Drafted → Staged

@@ -51,7 +51,7 @@ acts_edits old new Stop answer h =
 acts_edits old new Unreadable answer h = absurd h
 
 unserved_decls : (old : State) (b : Bool) → (if b then emptied old else old).decls ≡ old.decls
-unserved_decls old t1 = grind arith
+unserved_decls old b = grind arith
 
 step_edits : (old new : State) (command : Command) (answer : Result Answer AllocError)
     → LegalAnswer old command answer new → new.decls ≡ edited_all old.decls (accepted_changes command answer)
@@ -117,7 +117,7 @@ acts_count old new Stop answer h =
 acts_count old new Unreadable answer h = absurd h
 
 unserved_counts : (old : State) (b : Bool) → (if b then emptied old else old).counts ≡ old.counts
-unserved_counts old t1 = grind arith
+unserved_counts old b = grind arith
 
 step_counts : (old new : State) (command : Command) (answer : Result Answer AllocError)
     → LegalAnswer old command answer new → new.counts ≡ counts_behind old.decls old.counts command answer

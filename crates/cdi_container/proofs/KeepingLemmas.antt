@@ -120,7 +120,8 @@ unfolding after_key
 after_one old new key are k h = ap (λ (kept : Kept). kept.knows k) are ∙ or_left (knows old k) _ h
 
 -- after a question
-pub still_asked : {T E : Type 0} (r : Result T E) (old new : Live) (key : Key) → OnOk r (kept_in new ≡ after_key old.decls key (kept_in old))
+pub still_asked : {T E : Type 0} (r : Result T E) (old new : Live) (key : Key)
+    → OnOk r (kept_in new ≡ after_key old.decls key (kept_in old))
     → OnErr r (new ≡ old) → KnowsStill old new
 still_asked (Ok x) old new key ok err = after_one old new key ok
 still_asked (Err e) old new key ok err = λ k h. ap (λ (l : Live). knows l k) err ∙ h
@@ -146,6 +147,7 @@ knows_all old new same are k h =
     after_wanted old new are k ∙ or_right (knows old k) (is_wanted old.decls k) (ap (λ ds. is_wanted ds k) (sym same) ∙ h)
 
 -- a wiring that is there knows all that is wanted
-pub wired_knows : (live : Live) (book : List Promised) (wiring : Option Wiring) (w : Wiring) → wiring ≡ Some w → IsWiredRight live book wiring
+pub wired_knows : (live : Live) (book : List Promised) (wiring : Option Wiring) (w : Wiring) → wiring ≡ Some w
+    → IsWiredRight live book wiring
     → KnowsAll live
 wired_knows live book wiring w is right = (subst (IsWiredRight live book) is right).1

@@ -31,7 +31,7 @@ has-with_key keys key k h = grind (arith, list_any-append)
 -- ---- known keys in the order of the wanted ones
 
 and-within : (b c : Bool) → (b ≡ true → c ≡ true) → (b && c) ≡ b
-and-within t1 c h = grind arith
+and-within b c h = grind arith
 
 has-known : (ds : List Decl) (p : Key → Bool) → ((key : Key) → p key ≡ true → is_wanted ds key ≡ true) → (key : Key)
     → has_key (filter p (wanted ds)) key ≡ p key
@@ -90,7 +90,8 @@ module _ (ds : List Decl) (known : List Key) (ordered : IsInOrder ds known) wher
   work-then key work = grind (arith, known_with-wanted, false≢true, has-wanted, known-within, last-of, length-end)
 
   -- where all wanted keys are known, none counts
-  pub none-unknown : (work : ℕ) → ((key : Key) → is_wanted ds key ≡ true → has_key known key ≡ true) → work_with known (wanted ds) work ≡ work
+  pub none-unknown : (work : ℕ) → ((key : Key) → is_wanted ds key ≡ true → has_key known key ≡ true)
+      → work_with known (wanted ds) work ≡ work
   none-unknown work each = ap (λ ks. iterate with_one (length ks) work)
       (filter-within (λ k. not (has_key known k)) (λ k. false) (wanted ds)
       (λ k h. ap not (each k (sym (has-wanted ds k) ∙ h))) ∙ filter-none (wanted ds))
@@ -129,7 +130,7 @@ one-same ds key k wants = grind (arith, same_key-equiv.symm, or-false, same_key-
 
 one-counts : (b : Bool) (key : Key) (work : ℕ)
     → cond b work (with_one work) ≡ iterate with_one (length (cond (not b) (key ∷ []) [])) work
-one-counts t1 key work = grind arith
+one-counts b key work = grind arith
 
 pub asked_one : (old new : Live) (key : Key) → new.decls ≡ old.decls → KnownAreWanted old
     → kept_in new ≡ after_key old.decls key (kept_in old) → KnowsAfter (key ∷ []) old new

@@ -14,7 +14,8 @@ names_trace d before state m list is all =
     subst (λ s. NamesTrace s list) is (record { names = trace_names d before; entries = all; text = refl })
 
 -- where the names are those of the present declarations
-pub names_present : (d : Deployed) (before : Option Names) (state : State) (m : Moment) (names : Names) (trace : List Entry) (list : List Shown)
+pub names_present : (d : Deployed) (before : Option Names) (state : State) (m : Moment) (names : Names) (trace : List Entry)
+    (list : List Shown)
     → standing_at d (trace_names d before) m ≡ state → before ≡ None → names ≡ names_of d.decls → trace ≡ m.trace
     → list ≡ by_names names trace → NamesTrace state list
 names_present d before state m names trace list is none present same all = grind (arith, m.trace, names_trace)

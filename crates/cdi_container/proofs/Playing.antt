@@ -42,4 +42,5 @@ rests_asked d e keys m before asked r told =
 -- where no run began
 pub rests_unplayed : (d e : Deployed) (m begun : Moment) (before : Option Names) → RestsOnScene d m before → begun ≡ beginning m.standing
     → (d.is_wired ≡ true → e.is_wired ≡ true) → e.decls ≡ d.decls → e.book ≡ d.book → RestsOnScene e begun None
-rests_unplayed d e m begun before r began wired decls book = rests_same d e begun wired decls book (rests_restarted d m begun before r began)
+rests_unplayed d e m begun before r began wired decls book = rests_same d e begun wired decls book
+    (rests_restarted d m begun before r began)

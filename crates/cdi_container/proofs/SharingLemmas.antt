@@ -150,7 +150,7 @@ acts_go old new other answer h = untold_goes old new h.0 refl h.1
 -- ---- steps
 
 unserved_holds : (old : State) (b : Bool) → Holds old → Holds (if b then emptied old else old)
-unserved_holds old t1 q = grind (arith, nothing_stands)
+unserved_holds old b q = grind (arith, nothing_stands)
 
 -- what a command evaluates touches nothing that stands
 answer_goes : (old new : State) (command : Command) (answer : Result Answer AllocError) → LegalAnswer old command answer new

@@ -131,7 +131,7 @@ told_but_known s known work command other trace names = refl
 
 unserved_but_known : (s : State) (known : List Key) (work : ℕ) (b : Bool)
     → AreOneButKnown (if b then emptied (but_known s known work) else but_known s known work) (if b then emptied s else s)
-unserved_but_known s known work t1 = grind arith
+unserved_but_known s known work b = grind arith
 
 -- a state that differs from another in these at most
 known_apart : (old s new : State) (command : Command) (answer : Result Answer AllocError) (trace : List Entry) (names : Names)

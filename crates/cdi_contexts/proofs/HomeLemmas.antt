@@ -19,7 +19,7 @@ use Rattle.cdi_contexts.specs.declared.homes.Home.TheVariants as homes
 -- ---- an instance lives at its home and nowhere else
 
 and_true : (b : Bool) → (b && true) ≡ b
-and_true t1 = grind arith
+and_true b = grind arith
 
 -- whether it is this home, where there is one
 abbrev is_this : Option Home → Home → Bool
@@ -69,7 +69,7 @@ later_numbered low i j is less rest = grind (arith, rest.0, i.id.number, j.id.nu
 
 found_step : (b : Bool) (low : ℕ) (i j : Instance) (is : List Instance) (o : Option Instance) → low < i.id.number
     → cond b (Some i) o ≡ Some j → (o ≡ Some j → IsNumbered i.id.number is j) → IsNumbered low (i ∷ is) j
-found_step t1 low i j is o less e rest = grind (arith, first_numbered, later_numbered)
+found_step b low i j is o less e rest = grind (arith, first_numbered, later_numbered)
 
 found_numbered : (p : Instance → Bool) (low given : ℕ) (live : List Instance) (j : Instance) → RisesFrom low given live
     → find p live ≡ Some j → IsNumbered low live j
@@ -90,7 +90,7 @@ living_nowhere live h e = grind arith
 oldest_of : (b : Bool) (i j : Instance) (o p : Option Instance) → j.id ≡ i.id
     → option_map (λ (x : Instance). x.id.number) o ≡ option_map (λ (x : Instance). x.id.number) p
     → option_map (λ (x : Instance). x.id.number) (cond b (Some j) o) ≡ option_map (λ (x : Instance). x.id.number) (cond b (Some i) p)
-oldest_of t1 i j o p same rest = grind arith
+oldest_of b i j o p same rest = grind arith
 
 oldest-map : (h : Home) (f : Instance → Instance) (live : List Instance) → ((i : Instance) → IsSame i (f i))
     → oldest_at h (map f live) ≡ oldest_at h live
@@ -130,13 +130,13 @@ left-older m n here next less = grind (arith, nat_tests, and-false)
 removed_first : (h : Home) (i : Instance) (is : List Instance) (b : Bool)
     → oldest_at h is
     ≡ left_of (option_map (λ (j : Instance). j.id.number) (cond b (Some i) (living_at h is))) b i.id.number (oldest_at h is)
-removed_first h i is t1 = grind (arith, i.id.number, left-here, left-elsewhere)
+removed_first h i is b = grind (arith, i.id.number, left-here, left-elsewhere)
 
 removed_later : (b here : Bool) (i : Instance) (o p : Option Instance) (n : ℕ) (next : Option ℕ) → i.id.number < n
     → option_map (λ (j : Instance). j.id.number) o ≡ left_of (option_map (λ (j : Instance). j.id.number) p) here n next
     → option_map (λ (j : Instance). j.id.number) (cond b (Some i) o)
     ≡ left_of (option_map (λ (j : Instance). j.id.number) (cond b (Some i) p)) here n next
-removed_later t1 here i o p n next less rest = grind (arith, i.id.number, left-older)
+removed_later b here i o p n next less rest = grind (arith, i.id.number, left-older)
 
 oldest-removed : (h : Home) (low given : ℕ) (live : List Instance) (k : ℕ) (d : Instance) → RisesFrom low given live → k < length live
     → oldest_at h (remove live k)

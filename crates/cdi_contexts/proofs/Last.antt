@@ -16,10 +16,10 @@ abbrev pub Stands : ℕ → List Instance → Instance → Type 0
 Stands given live i = IsOwnerOf i.id.number i.owner × IsLive given live i.id.number
 
 here_first : (b : Bool) (i : Instance) (o : Option Instance) → b ≡ true → IsSome (cond b (Some i) o)
-here_first t1 i o h = grind arith
+here_first b i o h = grind arith
 
 here_later : (b : Bool) (i : Instance) (o : Option Instance) → IsSome o → IsSome (cond b (Some i) o)
-here_later t1 i o h = grind arith
+here_later b i o h = grind arith
 
 all_later : (given : ℕ) (i : Instance) (live is : List Instance) → AllByRecursion (Stands given live) is
     → AllByRecursion (Stands given (i ∷ live)) is
@@ -51,7 +51,7 @@ IsSuch P f d = (i : Instance) × P i × (f i.owner ≡ true) × (i.id ≡ d)
 such_first : (P : Instance → Type 0) (f : Owner → Bool) (d : InstanceId) (i : Instance) (b : Bool) (o : Option Instance)
     → f i.owner ≡ b → P i → (option_map (λ i. i.id) o ≡ Some d → IsSuch P f d)
     → option_map (λ i. i.id) (cond b (Some i) o) ≡ Some d → IsSuch P f d
-such_first P f d i t1 o h p rest e = grind arith
+such_first P f d i b o h p rest e = grind arith
 
 such_found : (P : Instance → Type 0) (f : Owner → Bool) (d : InstanceId) (xs : List Instance) → AllByRecursion P xs
     → option_map (λ i. i.id) (find (λ i. f i.owner) xs) ≡ Some d → IsSuch P f d

@@ -65,7 +65,7 @@ numbered_nowhere n (i ∷ is) a =
     cond-false (i.id.number == n) (Some i) (numbered is n) (other-head n i is a) ∙ numbered_nowhere n is (other-tail n i is a)
 
 kept : (b : Bool) (i : Instance) (is : List Instance) → b ≡ false → cond (not b) (i ∷ is) is ≡ i ∷ is
-kept t1 i is h = grind arith
+kept b i is h = grind arith
 
 pub without_nowhere : (n : ℕ) (live : List Instance) → IsPlace live n None → without n live ≡ live
 without_nowhere n [] a = refl
@@ -85,10 +85,10 @@ map_nowhere n f (i ∷ is) c a =
 -- ---- at a place
 
 taken : (b : Bool) (i : Instance) (o : Option Instance) → b ≡ true → cond b (Some i) o ≡ Some i
-taken t1 i o h = grind arith
+taken b i o h = grind arith
 
 dropped : (b : Bool) (i : Instance) (is : List Instance) → b ≡ true → cond (not b) (i ∷ is) is ≡ is
-dropped t1 i is h = grind arith
+dropped b i is h = grind arith
 
 is_it : (a n : ℕ) → a ≡ n → (a == n) ≡ true
 is_it a n h = grind (arith, nat_tests)
@@ -149,13 +149,13 @@ place_along s t n o e p = subst (λ (x : Storage). IsPlace x.standing.live n o) 
 -- ---- what finishes and keeps
 
 ready_other : (b : Bool) (i : Instance) → b ≡ false → (if b then record i { is_ready = true } else i) ≡ i
-ready_other t1 i h = grind arith
+ready_other b i h = grind arith
 
 produced_other : (b : Bool) (v : Val) (i : Instance) → b ≡ false → (if b then record i { is_ready = true; state = v } else i) ≡ i
-produced_other t1 v i h = grind arith
+produced_other b v i h = grind arith
 
 kept_other : (b : Bool) (v : Val) (i : Instance) → b ≡ false → (if b then record i { state = v } else i) ≡ i
-kept_other t1 v i h = grind arith
+kept_other b v i h = grind arith
 
 finish-changes : (n : ℕ) (product : Option Val) → Changes n (finish n product)
 finish-changes n None i h = ready_other (i.id.number == n) i h

@@ -17,7 +17,7 @@ rises_lower low high given (i ∷ is) h r = (omega (arith, h, r.0), r.1, r.2)
 
 rises_cond : (low given : ℕ) (b : Bool) (i : Instance) (is : List Instance) → low < i.id.number → IsOwnerOf i.id.number i.owner
     → RisesFrom i.id.number given is → RisesFrom low given (cond b (i ∷ is) is)
-rises_cond low given t1 i is h o r = grind (arith, i.id.number, rises_lower)
+rises_cond low given b i is h o r = grind (arith, i.id.number, rises_lower)
 
 rises-without : (low given n : ℕ) (live : List Instance) → RisesFrom low given live → RisesFrom low given (without n live)
 rises-without low given n [] r = r
@@ -34,13 +34,13 @@ abbrev pub IsSame : Instance → Instance → Type 0
 IsSame i j = (j.id ≡ i.id) × (j.owner ≡ i.owner)
 
 ready_same : (b : Bool) (i : Instance) → IsSame i (if b then record i { is_ready = true } else i)
-ready_same t1 i = grind arith
+ready_same b i = grind arith
 
 produced_same : (b : Bool) (v : Val) (i : Instance) → IsSame i (if b then record i { is_ready = true; state = v } else i)
-produced_same t1 v i = grind arith
+produced_same b v i = grind arith
 
 pub kept_same : (b : Bool) (v : Val) (i : Instance) → IsSame i (if b then record i { state = v } else i)
-kept_same t1 v i = grind arith
+kept_same b v i = grind arith
 
 pub finish_same : (n : ℕ) (product : Option Val) (i : Instance) → IsSame i (finish n product i)
 finish_same n None i = ready_same (i.id.number == n) i

@@ -57,11 +57,11 @@ stored_by false k v states = states ++ record { number = k.number; interceptor =
 stored_is : (b : Bool) (k : Holder) (v : Val) (states : List InterceptorState) → stored_by b k v states
     ≡ (if b then map (keep_for k.number k.interceptor v) states
     else states ++ record { number = k.number; interceptor = k.interceptor; value = v } ∷ [])
-stored_is t1 k v states = grind arith
+stored_is b k v states = grind arith
 
 stored_step : (b : Bool) (k : Holder) (v : Val) (s : InterceptorState) (states : List InterceptorState)
     → is_state_of k.number k.interceptor s ≡ false → s ∷ stored_by b k v states ≡ stored_by b k v (s ∷ states)
-stored_step t1 k v s states other = grind (arith, k.number, k.interceptor)
+stored_step b k v s states other = grind (arith, k.number, k.interceptor)
 
 stored : (k : Holder) (v : Val) (es : List Entry) → IsDistinct same_holder (keys_of (insert_entry same_holder es k v))
     → states_of (insert_entry same_holder es k v)

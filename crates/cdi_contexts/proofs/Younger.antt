@@ -13,10 +13,10 @@ use Rattle.cdi_contexts.specs.declared.instance.Instance.{Instance}
 -- ---- the younger ones are the back of the list
 
 leaves : (b : Bool) (i : Instance) (is : List Instance) → b ≡ false → cond b (i ∷ is) is ≡ is
-leaves t1 i is h = grind arith
+leaves b i is h = grind arith
 
 takes : (b : Bool) (i : Instance) (is : List Instance) → b ≡ true → cond b (i ∷ is) is ≡ i ∷ is
-takes t1 i is h = grind arith
+takes b i is h = grind arith
 
 all_young : (n : ℕ) (live : List Instance) → ((k : ℕ) (d : Instance) → k < length live → n < number_at live k d)
     → younger_than n live ≡ live
@@ -82,7 +82,7 @@ find_end p i is = ap (find p) (reverse-append (i ∷ []) is) ∙ find-append p (
 
 skips_back : (b c : Bool) (p : Instance → Bool) (i : Instance) (is js : List Instance) → p i ≡ c → (c ≡ true → b ≡ true)
     → find p (reverse is) ≡ find p (reverse js) → find p (reverse (cond b (i ∷ is) is)) ≡ find p (reverse (i ∷ js))
-skips_back t1 c p i is js pc young e = grind (arith, find_end, reverse, or_none)
+skips_back b c p i is js pc young e = grind (arith, find_end, reverse, or_none)
 
 find_young_back : (n : ℕ) (p : Instance → Bool) (live : List Instance) → AllByRecursion (IsYoung n p) live
     → find p (reverse (younger_than n live)) ≡ find p (reverse live)

@@ -37,7 +37,8 @@ module _ {Y Z S : Type 0} (before after : IndexMap (String Y) (String Z) S) wher
       by true is false same more = ap (λ e. e || list_any (λ c. bytes_eq key c.0) rest) same ∙ more
       by false is true same more =
           let gone = ap (λ n. p (compared before after n)) ((bytes_decides key (string_bytes k)).0 same) ∙ is in
-          more ∙ ap (λ q. list_any (λ k. bytes_eq key (string_bytes k)) ks && q) gone ∙ and-false (list_any (λ k. bytes_eq key (string_bytes k)) ks)
+          more ∙ ap (λ q. list_any (λ k. bytes_eq key (string_bytes k)) ks && q) gone
+          ∙ and-false (list_any (λ k. bytes_eq key (string_bytes k)) ks)
           ∙ sym gone
       by false is false same more = more
 
@@ -45,7 +46,8 @@ module _ {Y Z S : Type 0} (before after : IndexMap (String Y) (String Z) S) wher
   tells_what_differs key =
       list_any-append (λ c. bytes_eq key c.0) (filter differs (map (λ k. compared before after (string_bytes k)) (keys before)))
       (filter is_new (map (λ k. compared before after (string_bytes k)) (keys after)))
-      ∙ ap (λ b. b || list_any (λ c. bytes_eq key c.0) (filter is_new (map (λ k. compared before after (string_bytes k)) (keys after)))) (found differs key (keys before)
+      ∙ ap (λ b. b || list_any (λ c. bytes_eq key c.0) (filter is_new (map (λ k. compared before after (string_bytes k)) (keys after))))
+      (found differs key (keys before)
       ∙ ap (λ b. b && differs (compared before after key)) (sym (is_some-lookup (λ k. bytes_eq key (string_bytes k)) before.entries)))
       ∙ ap (λ b. (is_some (get_by_text before key) && differs (compared before after key)) || b) (found is_new key (keys after)
       ∙ ap (λ b. b && is_new (compared before after key)) (sym (is_some-lookup (λ k. bytes_eq key (string_bytes k)) after.entries)))

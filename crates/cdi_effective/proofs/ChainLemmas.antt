@@ -19,7 +19,8 @@ Names = List (List ℕ)
 
 -- ---- what is found by a name has it
 
-pub named : (n : List ℕ) (d : Decl) (s : BeanDecl) → same_key (key_at kinds.Bean n) (key_of d) ≡ true → as_bean (Some d) ≡ Some s → s.name ≡ n
+pub named : (n : List ℕ) (d : Decl) (s : BeanDecl) → same_key (key_at kinds.Bean n) (key_of d) ≡ true → as_bean (Some d) ≡ Some s
+    → s.name ≡ n
 named n (decls.Bean b) s key is =
     let same : b ≡ s = cc in
     sym (ap (λ c. c.name) same) ∙ sym (ap (λ k. k.name) (key_exact (key_at kinds.Bean n) (key_of (decls.Bean b)) key))
@@ -89,7 +90,7 @@ module _ (ds : List Decl) where
   put-once : (met : Names) (s : BeanDecl) (rest : List BeanDecl) (b : Bool) → has met s.name ≡ b → IsOnce (s.name ∷ met) rest
       → IsOnce met (cond b [] (s ∷ rest))
   unfolding IsDistinct
-  put-once met s rest t1 e once = grind (arith, s.name, once.0, once.1, all-weaker)
+  put-once met s rest b e once = grind (arith, s.name, once.0, once.1, all-weaker)
 
   on-once : (n : ℕ) → ((met : Names) (c : BeanDecl) → IsOnce met (chain_behind n ds met c)) → (met : Names) (o : Option BeanDecl)
       → IsOnce met (on_from met (more n met) o)
@@ -233,7 +234,8 @@ module _ (ds : List Decl) where
   chain-of b room found =
       let once = each-once limit (b.name ∷ []) b in
       let apart_all : AllByRecursion (λ k. bytes_eq b.name k ≡ false) (class_names (behind ds b)) =
-      all-weaker (λ k. has (b.name ∷ []) k ≡ false) (λ k. bytes_eq b.name k ≡ false) (class_names (behind ds b)) (λ k h. (or_parts (bytes_eq b.name k) false h).0) once.0 in record {
+      all-weaker (λ k. has (b.name ∷ []) k ≡ false) (λ k. bytes_eq b.name k ≡ false) (class_names (behind ds b))
+      (λ k h. (or_parts (bytes_eq b.name k) false h).0) once.0 in record {
         each = λ y. (
           λ h. elim (or_cases (bytes_eq b.name y) (has (class_names (behind ds b)) y) h) [
             | inl here ↦ (0, one_text b.name y here)

@@ -40,7 +40,8 @@ next-gives ds old new bean rest all adds gives =
 pub next-gives-place : (ds : List Decl) (old new : Gained) (place : ℕ) (places more : List ℕ) (all : List BeanDecl)
     → ((bean : BeanDecl) → IsPlace ds place bean → AddsGained ds bean old new) → places ≡ place ∷ more
     → GivesWithPlaces ds old places all → GivesWithPlaces ds new more all
-next-gives-place ds old new place places more all adds is gives = by gives.rest (subst (λ ps. ArePlaces ds ps gives.rest) is gives.are) gives.gives
+next-gives-place ds old new place places more all adds is gives = by gives.rest
+    (subst (λ ps. ArePlaces ds ps gives.rest) is gives.are) gives.gives
   where
     by : (rest : List BeanDecl) → ArePlaces ds (place ∷ more) rest → GivesWith ds old rest all → GivesWithPlaces ds new more all
     by [] are had = absurd are

@@ -28,7 +28,7 @@ module _ (edits : List Edit) (ds : List Decl) where
 
   stays-where : (b : Bool) (t t' : Option Decl) → t' ≡ t → Avoid (cond b (bean_keys (extended t)) []) edits
       → cond b (bean_named es (extended t')) None ≡ cond b (bean_named ds (extended t)) None
-  stays-where t1 t t' same avoid = grind (arith, named-stays)
+  stays-where b t t' same avoid = grind (arith, named-stays)
 
   pub specialized-stays : (c : BeanDecl) → is_among (edited_keys edits) (key_at kinds.Type c.name) ≡ false
       → Avoid (specialized_reads ds c) edits → specialized es c ≡ specialized ds c

@@ -78,7 +78,8 @@ names-tell (u ∷ v ∷ us) turn tells =
     let both = and_parts (tells_order u.name v.name) (tell_order (v ∷ us)) tells in
     let rest = names-tell (v ∷ us) turn.1 both.1 in
     let name = next-less u v turn.0.0 both.0 in
-    let text = first-by-names u.name v.name (text_of_arguments u.arguments) (text_of_arguments v.arguments) (opens u.arguments) name both.0 in
+    let text = first-by-names u.name v.name (text_of_arguments u.arguments) (text_of_arguments v.arguments)
+    (opens u.arguments) name both.0 in
     (((name, text), first-of-all u v us name text rest.0), rest)
 
 itself-equal : (x : List ℕ) → is_lt (byte_order x x) ≡ false

@@ -35,7 +35,8 @@ all-none : (ds : List Decl) (class : List ℕ) (keys : List DeclKey) (es : List 
 all-none ds class keys [] all = tt
 all-none ds class keys (e ∷ es) all = (λ among. replacing-none ds class e (all.0 among), all-none ds class keys es all.1)
 
-unread : (edits : List Edit) (ds : List Decl) (d : Decl) → Avoid (decl_reads ds d) edits → replaced_by (edited_all ds edits) d ≡ replaced_by ds d
+unread : (edits : List Edit) (ds : List Decl) (d : Decl) → Avoid (decl_reads ds d) edits
+    → replaced_by (edited_all ds edits) d ≡ replaced_by ds d
 unfolding replaced_by
 unread edits ds (decls.Bean bean) avoid = (leave-own edits ds bean avoid).replaced
 unread edits ds other avoid = refl

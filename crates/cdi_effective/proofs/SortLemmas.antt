@@ -7,10 +7,10 @@ use Rattle.std.proofs.lemmas.List.Sorted.{sorted_far}
 use Rattle.base_lists.proofs.{Each.all-filter, Sorting.NoneBefore}
 
 both-not : (p q : Bool) → (not p && not q) ≡ true → (p ≡ false) × (q ≡ false)
-both-not t1 q h = grind (arith, true≢false)
+both-not p q h = grind (arith, true≢false)
 
 not-both : (p q : Bool) → p ≡ false → q ≡ false → (not p && not q) ≡ true
-not-both t1 q a b = grind (arith, true≢false)
+not-both p q a b = grind (arith, true≢false)
 
 module _ {X : Type 0} where
   abbrev first-or : X → List X → X
@@ -23,10 +23,10 @@ module _ {X : Type 0} where
 
   swapped : (p q : Bool) (x y : X) (r : List X) → (p ≡ true → q ≡ false)
       → cond q (y ∷ cond p (x ∷ r) r) (cond p (x ∷ r) r) ≡ cond p (x ∷ cond q (y ∷ r) r) (cond q (y ∷ r) r)
-  swapped t1 q x y r h = grind (arith, true≢false)
+  swapped p q x y r h = grind (arith, true≢false)
 
   peeled : (p : Bool) (x : X) (r s : List X) → cond p (x ∷ r) r ≡ cond p (x ∷ s) s → r ≡ s
-  peeled t1 x r s e = grind arith
+  peeled p x r s e = grind arith
 
 module _ {X : Type 0} (lt : X → X → Bool) (o : IsStrictWeakOrder lt) where
   from-index : (x : X) (ys : List X) → ((k : ℕ) (d : X) → k < length ys → lt (slice_index_or ys k d) x ≡ false) → NoneBefore lt x ys

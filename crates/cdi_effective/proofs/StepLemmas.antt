@@ -47,7 +47,7 @@ unfolding chain_behind
 no-steps n ds met b none = ap (λ k. chain_behind k ds met b) none
 
 pub either : (b x : Bool) → cond b true x ≡ (b || x)
-either t1 x = grind arith
+either b x = grind arith
 
 -- ---- what is replaced
 

@@ -14,7 +14,7 @@ from_class class beans = drop (position_or_len (is_of_class class) beans) beans
 at-bean : (class : List ℕ) (bean : Effective) (more : List Effective) (b : Bool) → is_of_class class bean ≡ b
     → from_class class (bean ∷ more) ≡ cond b (bean ∷ more) (from_class class more)
 unfolding from_class
-at-bean class bean more t1 e = grind (arith, drop)
+at-bean class bean more b e = grind (arith, drop)
 
 product-passes : (ds : List Decl) (bean : BeanDecl) (p : ProducerDecl) → is_product (product ds bean p) ≡ true
 unfolding effective

@@ -180,7 +180,7 @@ any-lent p (u ∷ us) = ap (λ b. p u.now || b) (any-lent p us)
 -- one more use is put into it where it is not there
 lent-with : (found : List (Bor Qual)) (u : Bor Qual) (b : Bool) → b ≡ has_use (uses_in found) u.now
     → uses_in (cond b found (found ++ u ∷ [])) ≡ with_use (uses_in found) u.now
-lent-with found u t1 e = grind (arith, u.now, map-append)
+lent-with found u b e = grind (arith, u.now, map-append)
 
 pub once-next : (us : List (Bor Qual)) (i : ℕ) (u : Bor Qual) (found after : List (Bor Qual)) (all : List Qual) → i < length us
     → u ≡ get_or us i u

@@ -32,7 +32,7 @@ other-nat : (m n : ℕ) → nat_eq m n ≡ false → m ≡ n → ⊥
 other-nat m n e same = grind arith
 
 or-other : (a b : Bool) → a ≡ false → (a || b) ≡ b
-or-other t1 b e = grind (arith, true≢false)
+or-other a b e = grind (arith, true≢false)
 
 -- one more is met
 pub told-more : (ds : List Decl) (names : List (List ℕ)) (met : List Bool) (place : ℕ) (bean : BeanDecl) → place < length met

@@ -59,7 +59,7 @@ unfolding with_one
 found_one wanted names best name there found = grind (arith, with_one, near_then)
 
 or_true : (b : Bool) → (b || true) ≡ true
-or_true t1 = grind arith
+or_true b = grind arith
 
 found_all : (wanted : List ℕ) (all names : List (List ℕ)) (best : Option Near)
     → ((name : List ℕ) → has names name ≡ true → has all name ≡ true) → IfSome best (IsFound wanted all)

@@ -42,7 +42,7 @@ raised r q p = grind (arith, through, false≢true, back)
 -- ---- the greatest of several
 
 neither : (a b c d : Bool) → (a && (not (b || c) && d)) ≡ (a && (not b && (not c && d)))
-neither a t1 c d = grind arith
+neither a b c d = grind arith
 
 highest : (q : Option ℤ) (more : List Candidate) (c : Candidate)
     → is_kept_by (fold (λ p o. raise p o.priority) (Some q) more) c

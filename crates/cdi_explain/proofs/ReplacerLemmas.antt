@@ -35,7 +35,7 @@ managed_has ds bean off why =
     replaced_have_replacers ds bean.name ∙ replaced (is_replaced ds bean.name) (managed ds bean).is_alternative bean.priority off why
 
 product_is : (b : Bool) → (if b then disabled.NoPriority else disabled.Declaring) ≡ disabled.Specialized → ⊥
-product_is t1 why = grind arith
+product_is b why = grind arith
 
 product_has : (ds : List Decl) (bean : BeanDecl) (p : ProducerDecl) → HasReplacer ds (product ds bean p)
 unfolding effective

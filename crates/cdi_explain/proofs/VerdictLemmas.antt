@@ -47,7 +47,8 @@ only_ids (c ∷ d ∷ cs) = refl
 only_kept : (c : Candidate) → kept (c ∷ []) ≡ c ∷ []
 only_kept c = grind (arith, c.is_alternative, c.priority, not_itself)
 
-among_ids : (cs : List Candidate) (some : List Candidate) → alternatives cs ≡ some → ids_in (among cs some) ≡ ids (filter (is_kept_among some) cs)
+among_ids : (cs : List Candidate) (some : List Candidate) → alternatives cs ≡ some
+    → ids_in (among cs some) ≡ ids (filter (is_kept_among some) cs)
 among_ids cs [] e = ap ids (sym (filter-each cs))
 among_ids cs (a ∷ more) e =
     only_ids (greatest (a ∷ more))
@@ -67,10 +68,10 @@ lacking_all f [] = refl
 lacking_all f (x ∷ xs) = grind (arith, lacking_all f xs, position-cons)
 
 pub taken_kept : (b : Bool) → is_taken (if b then verdicts.Chosen else verdicts.Tied) ≡ true
-taken_kept t1 = grind arith
+taken_kept b = grind arith
 
 pub left_out : (b : Bool) → is_taken (if b then verdicts.LowerPriority else verdicts.NoAlternative) ≡ false
-left_out t1 = grind arith
+left_out b = grind arith
 
 taken_here : (ds : List Decl) (beans : List Effective) (t : List ℕ) (quals : List Qual) (bean : Effective)
     → is_taken (verdict ds beans t quals bean)
@@ -101,7 +102,8 @@ pub taken_are_the_answer : TakenAreTheAnswer
 unfolding chosen eligible
 taken_are_the_answer ds beans t quals =
     ap (map (λ (b : Effective). b.id))
-    (filter_agree (λ (b : Effective). is_taken (verdict ds beans t quals b)) (λ (b : Effective). is_eligible ds t quals b && is_kept cs (candidate b))
+    (filter_agree (λ (b : Effective). is_taken (verdict ds beans t quals b))
+    (λ (b : Effective). is_eligible ds t quals b && is_kept cs (candidate b))
     (taken_here ds beans t quals) beans
     ∙ filter-both (is_eligible ds t quals) (λ (b : Effective). is_kept cs (candidate b)) beans)
     ∙ map_map candidate (λ (c : Candidate). c.id) (filter (λ (b : Effective). is_kept cs (candidate b)) some)

@@ -111,7 +111,8 @@ text_behind_code (faults_are.Declared code kind name subject) = about (word_of_k
 text_behind_code (faults_are.NameClash name) = about (codes "name") name
 text_behind_code (faults_are.NamePrefix name longer) = about (codes "name") (name ++ space ∷ longer)
 text_behind_code (faults_are.Circular class producer) = about (codes "bean") (text_of_id (record { class = class; producer = producer }))
-text_behind_code (faults_are.SpecializedTwice specialized first second) = about (codes "bean") (specialized ++ space ∷ first ++ space ∷ second)
+text_behind_code (faults_are.SpecializedTwice specialized first second) = about (codes "bean")
+    (specialized ++ space ∷ first ++ space ∷ second)
 
 -- each prints its code first
 abbrev pub text_of_fault : Fault → List ℕ

@@ -59,7 +59,8 @@ found : {X : Type 0} (test : X → Bool) (x : X) → test x ≡ true → (xs : L
 found test x passes xs has = list_any_at test xs has.0 x has.1 (ap test has.2 ∙ passes)
 
 unsatisfied-among : (fs : List Fault) (p : PointId) → is_unsatisfied fs p ≡ true → IsAtFault codes.Unsatisfied fs p
-unsatisfied-among fs p is = among (λ f. is_this p (unsatisfied_at f)) _ (λ f h. unsatisfied-exact p f (this-exact p (unsatisfied_at f) h)) fs is
+unsatisfied-among fs p is = among (λ f. is_this p (unsatisfied_at f)) _
+    (λ f h. unsatisfied-exact p f (this-exact p (unsatisfied_at f) h)) fs is
 
 unsatisfied-found : (fs : List Fault) (p : PointId) → IsAtFault codes.Unsatisfied fs p → is_unsatisfied fs p ≡ true
 unsatisfied-found fs p has = found (λ f. is_this p (unsatisfied_at f)) _ ((same_point-decides p p).1 refl) fs has
@@ -95,7 +96,8 @@ red_are_at_fault fs p = (to (is_unsatisfied fs p) refl (is_ambiguous fs p) refl,
 
     back : IsAtFault codes.Unsatisfied fs p ⊎ IsAtFault codes.Ambiguous fs p → state_of fs p ≢ states.Plain
     back (inl has) plain =
-        let bad : states.Unsatisfied ≡ states.Plain = sym (ap (λ u. state_by u (is_ambiguous fs p)) (unsatisfied-found fs p has)) ∙ plain in cc
+        let bad : states.Unsatisfied ≡ states.Plain = sym (ap (λ u. state_by u (is_ambiguous fs p)) (unsatisfied-found fs p has))
+        ∙ plain in cc
     back (inr has) plain =
         ambiguous-red (is_unsatisfied fs p) (sym (ap (λ a. state_by (is_unsatisfied fs p) a) (ambiguous-found fs p has)) ∙ plain)
 

@@ -42,7 +42,8 @@ pub points_among : (fs : List Fault) (beans : List BeanNode) (wires : List Wire)
     → filter is_point ((map nodes.Bean beans ++ map (point_node fs) wires) ++ map nodes.Interceptor names) ≡ map (point_node fs) wires
 points_among fs beans wires names =
     filter-append is_point (map nodes.Bean beans ++ map (point_node fs) wires) (map nodes.Interceptor names)
-    ∙ ap (λ ys. filter is_point (map nodes.Bean beans ++ map (point_node fs) wires) ++ ys) (none-map is_point nodes.Interceptor (λ n. refl) names)
+    ∙ ap (λ ys. filter is_point (map nodes.Bean beans ++ map (point_node fs) wires) ++ ys)
+    (none-map is_point nodes.Interceptor (λ n. refl) names)
     ∙ append-nil _
     ∙ filter-append is_point (map nodes.Bean beans) (map (point_node fs) wires)
     ∙ ap (λ ys. ys ++ filter is_point (map (point_node fs) wires)) (none-map is_point nodes.Bean (λ b. refl) beans)
@@ -52,7 +53,8 @@ pub beans_among : (fs : List Fault) (beans : List BeanNode) (wires : List Wire) 
     → filter is_bean ((map nodes.Bean beans ++ map (point_node fs) wires) ++ map nodes.Interceptor names) ≡ map nodes.Bean beans
 beans_among fs beans wires names =
     filter-append is_bean (map nodes.Bean beans ++ map (point_node fs) wires) (map nodes.Interceptor names)
-    ∙ ap (λ ys. filter is_bean (map nodes.Bean beans ++ map (point_node fs) wires) ++ ys) (none-map is_bean nodes.Interceptor (λ n. refl) names)
+    ∙ ap (λ ys. filter is_bean (map nodes.Bean beans ++ map (point_node fs) wires) ++ ys)
+    (none-map is_bean nodes.Interceptor (λ n. refl) names)
     ∙ append-nil _
     ∙ filter-append is_bean (map nodes.Bean beans) (map (point_node fs) wires)
     ∙ ap (λ ys. filter is_bean (map nodes.Bean beans) ++ ys) (none-map is_bean (point_node fs) (λ w. refl) wires)

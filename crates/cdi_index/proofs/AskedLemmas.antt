@@ -105,7 +105,8 @@ module _ (q : Question) (t : List ℕ) (us : List Qual) where
       (no-type places.Extends (option_to_list d.extends)) (no-type places.Implements d.implements)) ∙ asking))
   words-of-asker ds (decls.Qualifier d) w asking has = absurd (false≢true asking)
   words-of-asker ds (decls.Binding d) w asking has = absurd (false≢true (sym (no-use uses.Binding d.declares) ∙ asking))
-  words-of-asker ds (decls.Stereotype d) w asking has = absurd (false≢true (sym (neither (map StereotypeOf d.stereotypes) (of_bindings d.bindings)
+  words-of-asker ds (decls.Stereotype d) w asking has = absurd
+      (false≢true (sym (neither (map StereotypeOf d.stereotypes) (of_bindings d.bindings)
       (no-stereotype d.stereotypes) (no-use uses.Binding d.bindings)) ∙ asking))
 
   module _ (ds : List Decl) (shelf : Shelf) (listings : List Listing) (shelved : IsShelf shelf) (exact : IsExact ds (stored shelf))
@@ -147,7 +148,8 @@ module _ (q : Question) (t : List ℕ) (us : List Qual) where
         by it.one it.there parts.0 parts.1 (words-of-asker ds it.one word parts.1 (named it.one parts.1))
       where
         slot : (d : Decl) → find_decl (kind_of d) (name_of_decl d) ds ≡ Some d → not (is_among apart (key_of d)) ≡ true
-            → asks_for q t us d ≡ true → (s : ℕ) (e : Kept) → kept_at shelf s ≡ Some e → e.key ≡ key_of d → is_asker_at ds asked apart shelf s ≡ true
+            → asks_for q t us d ≡ true → (s : ℕ) (e : Kept) → kept_at shelf s ≡ Some e → e.key ≡ key_of d
+            → is_asker_at ds asked apart shelf s ≡ true
         slot d there free asking s e kept key =
             ap (is_asker ds asked apart) kept
             ∙ ap (λ (k : DeclKey). not (is_among apart k) && option_map_or asks (find_decl k.kind k.name ds) false) key

@@ -98,7 +98,8 @@ pub among-turned : (ks : List DeclKey) (k : DeclKey) → list_any (same_key k) k
 among-turned ks k = any-same (same_key k) (λ l. same_key l k) ks (λ l. same_key_equiv.symm k l)
 
 -- what no key of some has none among them has
-pub none-of : (p : DeclKey → Bool) (keys : List DeclKey) (key : DeclKey) → list_any p keys ≡ false → is_among keys key ≡ true → p key ≡ false
+pub none-of : (p : DeclKey → Bool) (keys : List DeclKey) (key : DeclKey) → list_any p keys ≡ false → is_among keys key ≡ true
+    → p key ≡ false
 none-of p [] key none among = absurd (false≢true among)
 none-of p (l ∷ keys) key none among = by (same_key l key) refl (p l) refl (none-of p keys key)
   where

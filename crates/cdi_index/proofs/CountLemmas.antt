@@ -55,7 +55,7 @@ count-keys r (d ∷ ds) = grind (arith, count-keys r ds)
 
 tests : (a r f g c : Bool) → (a ≡ false → f ≡ g) → (a ≡ true → g ≡ true → r ≡ true)
     → ((a || r) && (c && f)) ≡ (f && (c && (not g || r)))
-tests t1 r f g s5 kept read = grind (arith, and-false, false≢true)
+tests a r f g s5 kept read = grind (arith, and-false, false≢true)
 
 some-map : {X Y : Type 0} (f : X → Y) (o : Option X) → is_some (option_map f o) ≡ is_some o
 some-map f None = refl

@@ -6,6 +6,7 @@ pub among-named : (d : Decl) (w : Word) → words_have (flat_map words_named_in 
 unfolding words_named
 among-named d w has = grind (arith, list_any-append)
 
-pub among-written : (d : Decl) (w : Word) → words_have (flat_map words_written_in (mentions d)) w ≡ true → words_have (words_named d) w ≡ true
+pub among-written : (d : Decl) (w : Word) → words_have (flat_map words_written_in (mentions d)) w ≡ true
+    → words_have (words_named d) w ≡ true
 unfolding words_named
 among-written d w has = grind (arith, list_any-append)

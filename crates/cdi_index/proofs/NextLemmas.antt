@@ -55,7 +55,8 @@ module _ (ds : List Decl) (shelf : Shelf) (listings : List Listing) (is : IsShel
           (ap (λ x. same_key x k) here.key ∙ same_key_equiv.refl k) (ap (λ m. reads (Some m) key) here.is ∙ read) in
           any-more (nat_eq s) (λ t. is_reader (kept_at shelf t) k key) (under listings (word_of key))
           (λ t same. ap (λ x. is_reader (kept_at shelf x) k key) (sym (eqb-true s t same)) ∙ reader)
-          (sound (word_of key) k s made at (or_left (reads (Some made) key) (classes_have made.replaces (word_of key) || words_have made.words (word_of key)) read))
+          (sound (word_of key) k s made at (or_left (reads (Some made) key)
+          (classes_have made.replaces (word_of key) || words_have made.words (word_of key)) read))
 
   pub readers-are : is_reader_among shelf (under listings (word_of key)) k key ≡ reads (made_of ds k) key
   readers-are = same-bool (is_reader_among shelf (under listings (word_of key)) k key) (reads (made_of ds k) key) reads-if reads-only
@@ -159,7 +160,8 @@ module _ (ds eds : List Decl) (edits : List Edit) (ekeys ks slice : List DeclKey
     exact-new : IsExact ds (stored new)
     exact-new = exact-same old new slots kept ds exact
 
-    pub prepared : AreDistinct next.decls → length next.decls ≤ limit → IsFreeFrom next.first old → next.first + length next.changes.items < 2 ^ 64
+    pub prepared : AreDistinct next.decls → length next.decls ≤ limit → IsFreeFrom next.first old
+        → next.first + length next.changes.items < 2 ^ 64
         → length next.changes.items ≤ spare new.slots → length next.changes.items ≤ spare new.kept
         → keys_changed next.changes.items ≡ next.affected.keys
         → AreReplaced next.decls (turned next.turns.list.items (get same_key new.replaced))

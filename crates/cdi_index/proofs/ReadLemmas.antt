@@ -7,7 +7,8 @@ use Rattle.cdi_model.specs.declared.decl.Kind.TheVariants as kinds
 use Rattle.cdi_match.specs.Types.{types_of}
 use Rattle.cdi_match.proofs.TypeLemmas.{is_type_decides, types_of-has}
 
-pub among-types : (names : List (List ℕ)) (name : List ℕ) → is_among (map (key_at kinds.Type) names) (key_at kinds.Type name) ≡ has names name
+pub among-types : (names : List (List ℕ)) (name : List ℕ)
+    → is_among (map (key_at kinds.Type) names) (key_at kinds.Type name) ≡ has names name
 among-types [] name = refl
 among-types (n ∷ names) name = ap (λ b. bytes_eq n name || b) (among-types names name)
 

@@ -68,7 +68,8 @@ any-at p kind name (d ∷ ds) e f h = by (is_of kind name d) f (λ g. any-at p k
         or_left (p d) (list_any p ds) (ap p same ∙ h)
     by false g more = or_right (p d) (list_any p ds) (more g)
 
-among-beans : (classes : List (List ℕ)) (name : List ℕ) → is_among (map (key_at kinds.Bean) classes) (key_at kinds.Bean name) ≡ has classes name
+among-beans : (classes : List (List ℕ)) (name : List ℕ)
+    → is_among (map (key_at kinds.Bean) classes) (key_at kinds.Bean name) ≡ has classes name
 among-beans [] name = refl
 among-beans (c ∷ classes) name = ap (λ b. bytes_eq c name || b) (among-beans classes name)
 
@@ -100,7 +101,8 @@ replaced-by ds distinct k h = by k.kind k.name h
     by kinds.Type name h = absurd (false≢true h)
     by other name h = absurd (false≢true h)
 
-no-bean : (classes : List (List ℕ)) (kind : Kind) (name : List ℕ) → ((other : List ℕ) → same_key (key_at kinds.Bean other) (key_at kind name) ≡ false)
+no-bean : (classes : List (List ℕ)) (kind : Kind) (name : List ℕ)
+    → ((other : List ℕ) → same_key (key_at kinds.Bean other) (key_at kind name) ≡ false)
     → is_among (map (key_at kinds.Bean) classes) (key_at kind name) ≡ true → ⊥
 no-bean [] kind name h e = false≢true e
 no-bean (c ∷ classes) kind name h e = no-bean classes kind name h
@@ -135,7 +137,8 @@ is-replaced ds a k h = by k.kind k.name h
     of_binding None name h = false≢true h
     of_binding (Some d) name h = false≢true h
 
-    at_kind : (kind : Kind) (n name : List ℕ) → replaces (made_of ds (key_at kind n)) (key_at kinds.Bean name) ≡ true → is_replaced ds name ≡ true
+    at_kind : (kind : Kind) (n name : List ℕ) → replaces (made_of ds (key_at kind n)) (key_at kinds.Bean name) ≡ true
+        → is_replaced ds name ≡ true
     at_kind kinds.Bean n name h = of_bean n name (find_decl kinds.Bean n ds) refl h
     at_kind kinds.Type n name h = absurd (of_type n (find_decl kinds.Type n ds) name h)
     at_kind kinds.Qualifier n name h = absurd (false≢true h)
@@ -164,7 +167,8 @@ word-of-replaced made k h =
     or_right (keys_have made.reads w) (classes_have made.replaces w || words_have made.words w)
     (or_left (classes_have made.replaces w) (words_have made.words w) (by made.replaces h))
   where
-    by : (classes : List (List ℕ)) → is_among (map (key_at kinds.Bean) classes) k ≡ true → classes_have classes (replaced-word k.name) ≡ true
+    by : (classes : List (List ℕ)) → is_among (map (key_at kinds.Bean) classes) k ≡ true
+        → classes_have classes (replaced-word k.name) ≡ true
     by [] e = absurd (false≢true e)
     by (c ∷ classes) e =
         let w : Word = replaced-word k.name in
@@ -181,7 +185,8 @@ made-after es [] before k = refl
 made-after es (l ∷ ks) before k = by (same_key l k) refl (made-after es ks before k)
   where
     by : (b : Bool) → same_key l k ≡ b → made_after (map (change_of es) ks) before k ≡ cond (list_any (same_key k) ks) (made_of es k) before
-        → cond b (made_of es l) (made_after (map (change_of es) ks) before k) ≡ cond (same_key k l || list_any (same_key k) ks) (made_of es k) before
+        → cond b (made_of es l) (made_after (map (change_of es) ks) before k)
+        ≡ cond (same_key k l || list_any (same_key k) ks) (made_of es k) before
     by true e more = ap (made_of es) (key_exact l k e)
         ∙ ap (λ c. cond (c || list_any (same_key k) ks) (made_of es k) before) (sym (same_key_equiv.symm k l ∙ e))
     by false e more = more ∙ ap (λ c. cond (c || list_any (same_key k) ks) (made_of es k) before) (sym (same_key_equiv.symm k l ∙ e))
@@ -189,7 +194,8 @@ made-after es (l ∷ ks) before k = by (same_key l k) refl (made-after es ks bef
 any-key : (p : DeclKey → Bool) (ks : List DeclKey) (k : DeclKey) → list_any (same_key k) ks ≡ true → p k ≡ true → list_any p ks ≡ true
 any-key p ks k among h = any-more (same_key k) p ks (λ l same. ap p (sym (key_exact k l same)) ∙ h) among
 
-module _ (ds es : List Decl) (ks : List DeclKey) (shelf : Shelf) (listings : List Listing) (distinct : AreDistinct ds) (apart : AreDistinct es)
+module _ (ds es : List Decl) (ks : List DeclKey) (shelf : Shelf) (listings : List Listing) (distinct : AreDistinct ds)
+    (apart : AreDistinct es)
     (is : IsShelf shelf) (exact : IsExact ds (stored shelf)) (sound : IsSound (stored shelf) listings)
     (others : (k : DeclKey) → list_any (same_key k) ks ≡ false → made_of es k ≡ made_of ds k) where
   abbrev changes : List Change
@@ -281,7 +287,8 @@ module _ (ds es : List Decl) (ks : List DeclKey) (shelf : Shelf) (listings : Lis
       here h = let it = replaced-by es apart k h in by it.by it.replaces (list_any (same_key it.by) ks) refl
         where
           by : (a : DeclKey) → replaces (made_of es a) k ≡ true → (b : Bool) → list_any (same_key a) ks ≡ b → is_replaced_key ds k ≡ true
-          by a r true among = absurd (at_stake a among (or_right (same_key a k) (replaces (made_in (stored shelf a)) k || replaces (made_of es a) k)
+          by a r true among = absurd (at_stake a among
+              (or_right (same_key a k) (replaces (made_in (stored shelf a)) k || replaces (made_of es a) k)
               (or_right (replaces (made_in (stored shelf a)) k) (replaces (made_of es a) k) r)))
           by a r false apart_from = is-replaced ds a k (ap (λ m. replaces m k) (sym (others a apart_from)) ∙ r)
 
@@ -289,7 +296,8 @@ module _ (ds es : List Decl) (ks : List DeclKey) (shelf : Shelf) (listings : Lis
       there h = let it = replaced-by ds distinct k h in by it.by it.replaces (list_any (same_key it.by) ks) refl
         where
           by : (a : DeclKey) → replaces (made_of ds a) k ≡ true → (b : Bool) → list_any (same_key a) ks ≡ b → is_replaced_key es k ≡ true
-          by a r true among = absurd (at_stake a among (or_right (same_key a k) (replaces (made_in (stored shelf a)) k || replaces (made_of es a) k)
+          by a r true among = absurd (at_stake a among
+              (or_right (same_key a k) (replaces (made_in (stored shelf a)) k || replaces (made_of es a) k)
               (or_left (replaces (made_in (stored shelf a)) k) (replaces (made_of es a) k) (ap (λ m. replaces m k) (exact a) ∙ r))))
           by a r false apart_from = is-replaced es a k (ap (λ m. replaces m k) (others a apart_from) ∙ r)
 
@@ -316,7 +324,8 @@ none-replaced (b ∷ bs) = ap (λ c. c ∷ map (unless_replaced false) bs) (not-
 bean-name : (name : List ℕ) (ds : List Decl) (b : BeanDecl) → find_bean name ds ≡ Some b → b.name ≡ name
 bean-name name ds b found = found_name name b ds found
 
-pub lent-are : (ds : List Decl) (class : List ℕ) → lent (replaced_records ds (key_at kinds.Bean class)) (made_of ds (key_at kinds.Bean class))
+pub lent-are : (ds : List Decl) (class : List ℕ)
+    → lent (replaced_records ds (key_at kinds.Bean class)) (made_of ds (key_at kinds.Bean class))
     ≡ records_in ds class
 unfolding records_in
 lent-are ds class = grind (arith, records_are_own, bean-name, none-replaced)

@@ -59,7 +59,8 @@ module _ (ds : List Decl) (distinct : AreDistinct ds) (w : Word) (p : ℕ) where
       lends : lent (replaced_records ds (key_at kinds.Bean name)) (Some made) ≡ records_in ds name
       lends = lent-of ds name (replaced_records ds (key_at kinds.Bean name)) (Some made) refl (sym is)
 
-      none : (o : Option Made) → o ≡ None → o ≡ Some made → lent (replaced_records ds (key_at kinds.Bean name)) (Some made) ≡ records_at ds p
+      none : (o : Option Made) → o ≡ None → o ≡ Some made
+          → lent (replaced_records ds (key_at kinds.Bean name)) (Some made) ≡ records_at ds p
       none o e f = absurd (let no : None ≡ Some made = sym e ∙ f in cc)
 
       by : (o : Option Decl) → find_decl kinds.Bean name ds ≡ o → option_map (made_of_bean ds) (as_bean o) ≡ Some made

@@ -27,12 +27,14 @@ filter-under f test q (x ∷ xs) gives = by (test x) refl (filter-under f test q
     by true e rest =
         filter-append q (f x) (flat_map f (filter test xs)) ∙ ap (λ ys. filter q (f x) ++ ys) rest
         ∙ sym (filter-append q (f x) (flat_map f xs))
-    by false e rest = rest ∙ ap (λ ys. ys ++ filter q (flat_map f xs)) (sym (gives 0 x refl e)) ∙ sym (filter-append q (f x) (flat_map f xs))
+    by false e rest = rest ∙ ap (λ ys. ys ++ filter q (flat_map f xs)) (sym (gives 0 x refl e))
+        ∙ sym (filter-append q (f x) (flat_map f xs))
 
 -- ---- the words of records
 
 -- a list of words of names has the word of one just where the names have that
-pub types-have : (types : List (List ℕ)) (t : List ℕ) → words_have (map (word_at reasons.HasType) types) (word_at reasons.HasType t) ≡ has types t
+pub types-have : (types : List (List ℕ)) (t : List ℕ)
+    → words_have (map (word_at reasons.HasType) types) (word_at reasons.HasType t) ≡ has types t
 types-have [] t = refl
 types-have (s ∷ types) t = ap (λ b. bytes_eq s t || b) (types-have types t)
 

@@ -77,7 +77,8 @@ of-decl ds kinds.Interceptor name made w p is has at = by (find_decl kinds.Inter
   where
     other : (d : Decl) → same_key (key_at kinds.Interceptor name) (key_of d) ≡ false
         → find_decl kinds.Interceptor name ds ≡ Some d → OfDecl ds made.words p
-    other d apart e = absurd (false≢true (sym apart ∙ ap (same_key (key_at kinds.Interceptor name)) (sym (key-found kinds.Interceptor name ds d e))
+    other d apart e = absurd (false≢true (sym apart
+        ∙ ap (same_key (key_at kinds.Interceptor name)) (sym (key-found kinds.Interceptor name ds d e))
         ∙ same_key_equiv.refl (key_at kinds.Interceptor name)))
 
     by : (o : Option Decl) → find_decl kinds.Interceptor name ds ≡ o → option_map made_of_interceptor o ≡ Some made → OfDecl ds made.words p
@@ -133,7 +134,8 @@ module _ (ds : List Decl) (shelf : Shelf) (listings : List Listing) (shelved : I
       → is_at_slots ds shelf w (under listings w) p ≡ true
   marks-if p (decls.Bean b) w at has =
       let place = own-place ds p b distinct at in
-      marks-from p w (key_at kinds.Bean b.name) (made_of_bean ds b) (ap (option_map (made_of_bean ds)) (place-found ds b p place)) place.0 has
+      marks-from p w (key_at kinds.Bean b.name) (made_of_bean ds b)
+      (ap (option_map (made_of_bean ds)) (place-found ds b p place)) place.0 has
   marks-if p (decls.Interceptor i) w at has =
       let k = key_at kinds.Interceptor i.name in
       marks-from p w k (made_of_interceptor (decls.Interceptor i))
@@ -154,7 +156,8 @@ module _ (ds : List Decl) (shelf : Shelf) (listings : List Listing) (shelved : I
       only h = by (slice_get ds p) refl
         where
           by : (o : Option Decl) → slice_get ds p ≡ o → option_map_or (has_one ds words) o false ≡ true
-          by None none = any-elim (at_slots p) words h (λ w at. any-elim (λ s. is_at ds w (kept_at shelf s) p) (under listings w) at (λ s one.
+          by None none = any-elim (at_slots p) words h
+              (λ w at. any-elim (λ s. is_at ds w (kept_at shelf s) p) (under listings w) at (λ s one.
               let it = marks-only p s w one in absurd (let no : None ≡ Some it.0 = sym none ∙ it.1 in cc)))
           by (Some d) there = any-more (at_slots p) (words_have (words_by ds d)) words
               (λ w at. any-elim (λ s. is_at ds w (kept_at shelf s) p) (under listings w) at (λ s one.

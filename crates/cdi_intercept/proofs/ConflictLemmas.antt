@@ -76,7 +76,7 @@ opposed-turned ds u v = ap (λ b. b && not (alike ds u v)) (bytes_eq-turned u.na
 -- ---- by the first and the others
 
 or-again : (a b c : Bool) → a ≡ false → ((a || b) || (b || c)) ≡ (b || c)
-or-again t1 b c e = grind arith
+or-again a b c e = grind arith
 
 pub conflict-cons : (ds : List Decl) (u : Qual) (us : List Qual)
     → has_conflict ds (u ∷ us) ≡ (list_any (are_opposed ds u) us || has_conflict ds us)
@@ -150,4 +150,4 @@ differ-more ds uses i u before after all lt is put same so_far =
 -- a position is noted
 pub put-at : (uses : List (Bor Qual)) (i : ℕ) (u : Bor Qual) (here : Bool) (old : Option ℕ) → i < length uses → u ≡ get_or uses i u
     → use_at (uses_in uses) (cond here (Some i) old) ≡ cond here (Some u.now) (use_at (uses_in uses) old)
-put-at uses i u t1 old lt is = grind (arith, slice_get-map, slice_get-get_or)
+put-at uses i u here old lt is = grind (arith, slice_get-map, slice_get-get_or)

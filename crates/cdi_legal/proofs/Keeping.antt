@@ -46,7 +46,7 @@ steady-finish n (Some v) i = grind (arith, i.id.number, same-finish, ready-if)
 still_if : (b : Bool) (x y i : Instance) (r s : Option Instance) → y.id ≡ x.id → y.owner ≡ x.owner
     → (x.is_ready ≡ true → y.is_ready ≡ true) → (r ≡ Some i → IsStill i s)
     → (if b then Some x else r) ≡ Some i → IsStill i (if b then Some y else s)
-still_if t1 x y i r s d o ready rest e = grind arith
+still_if b x y i r s d o ready rest e = grind arith
 
 still-map : (f : Test) (change : Instance → Instance) (live : List Instance) (i : Instance) → IsSteadyChange change
     → found_by f live ≡ Some i → IsStill i (found_by f (map change live))
@@ -61,7 +61,7 @@ still-more f (y ∷ ys) x i e = grind (arith, still-more f ys x i, y.id, y.owner
 -- where it is not the one that is found, the one behind it is
 not-first : (c : Bool) (y i : Instance) (r : Option Instance) (k : ℕ) → y.id.number ≡ k → (i.id.number ≡ k → ⊥)
     → (if c then Some y else r) ≡ Some i → r ≡ Some i
-not-first t1 y i r k is d e = grind arith
+not-first c y i r k is d e = grind arith
 
 other_if : (f : Test) (k : ℕ) (b : Bool) (y i : Instance) (ys : List Instance) → (y.id.number == k) ≡ b
     → (i.id.number ≡ k → ⊥)
@@ -117,7 +117,7 @@ all-more P (y ∷ ys) x a p = (a.0, all-more P ys x a.1 p)
 
 all-if : {X : Type 0} (P : X → Type 0) (b : Bool) (x : X) (xs : List X) → P x → AllByRecursion P xs
     → AllByRecursion P (if b then x ∷ xs else xs)
-all-if P t1 x xs p a = grind arith
+all-if P b x xs p a = grind arith
 
 pub all-without : (P : Instance → Type 0) (n : ℕ) (live : List Instance) → AllByRecursion P live
     → AllByRecursion P (without n live)

@@ -33,7 +33,7 @@ count-end f (j ∷ js) i = grind (arith, count-end f js i, counted, filter)
 
 dropped : (f : Test) (b : Bool) (i : Instance) (is js : List Instance) → count f js ≤ count f is
     → count f (if b then i ∷ js else js) ≤ count f (i ∷ is)
-dropped f t1 i is js h = grind (arith, i.id, i.owner, counted)
+dropped f b i is js h = grind (arith, i.id, i.owner, counted)
 
 count-without : (f : Test) (n : ℕ) (live : List Instance) → count f (without n live) ≤ count f live
 count-without f n [] = omega arith

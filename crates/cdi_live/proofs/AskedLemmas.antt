@@ -28,16 +28,19 @@ any-among p (l ∷ keys) k among h = elim (or_cases (same_key l k) (is_among key
 
 module _ (t : List ℕ) (us : List Qual) where
   -- a declaration asks where a point of it does
-  at-point : (m : Mention) → list_any (λ point. same_question (ChoiceKey t us) (key_of_point point)) (point_named m) ≡ asks_in questions.Choice t us m
+  at-point : (m : Mention) → list_any (λ point. same_question (ChoiceKey t us) (key_of_point point)) (point_named m)
+      ≡ asks_in questions.Choice t us m
   at-point (PointOf place point) = grind arith
   at-point other = refl
 
   at-points : (ms : List Mention)
-      → list_any (λ point. same_question (ChoiceKey t us) (key_of_point point)) (flat_map point_named ms) ≡ list_any (asks_in questions.Choice t us) ms
+      → list_any (λ point. same_question (ChoiceKey t us) (key_of_point point)) (flat_map point_named ms)
+      ≡ list_any (asks_in questions.Choice t us) ms
   at-points [] = refl
   at-points (m ∷ ms) = grind (arith, at-points ms, list_any-append, at-point)
 
-  asks-is : (d : Decl) → list_any (λ point. same_question (ChoiceKey t us) (key_of_point point)) (points_of d) ≡ asks_for questions.Choice t us d
+  asks-is : (d : Decl) → list_any (λ point. same_question (ChoiceKey t us) (key_of_point point)) (points_of d)
+      ≡ asks_for questions.Choice t us d
   unfolding asks_for
   asks-is d = at-points (mentions d)
 
@@ -46,7 +49,8 @@ module _ (t : List ℕ) (us : List Qual) where
   unfolding is_wanted_choice
   wanted-is ds =
       sym ((wanted_stand_once ds).within (ChoiceKey t us))
-      ∙ any-same (λ d. list_any (λ point. same_question (ChoiceKey t us) (key_of_point point)) (points_of d)) (asks_for questions.Choice t us) ds asks-is
+      ∙ any-same (λ d. list_any (λ point. same_question (ChoiceKey t us) (key_of_point point)) (points_of d))
+      (asks_for questions.Choice t us) ds asks-is
 
 module _ (q : Question) (t : List ℕ) (us : List Qual) (edits : List Edit) (ds : List Decl) (distinct : AreDistinct ds)
     (apart : AreDistinct (edited_all ds edits)) where
@@ -60,7 +64,8 @@ module _ (q : Question) (t : List ℕ) (us : List Qual) (edits : List Edit) (ds 
   others d = not (is_among keys (key_of d)) && asks_for q t us d
 
   -- a declaration that is not edited is found before where it is found after
-  stays : (d : Decl) → is_among keys (key_of d) ≡ false → find_decl (kind_of d) (name_of_decl d) es ≡ find_decl (kind_of d) (name_of_decl d) ds
+  stays : (d : Decl) → is_among keys (key_of d) ≡ false
+      → find_decl (kind_of d) (name_of_decl d) es ≡ find_decl (kind_of d) (name_of_decl d) ds
   stays d none = edits_keep_decl edits ds (kind_of d) (name_of_decl d) none
 
   asked : is_asked_after ds es keys q t us ≡ true → list_any (asks_for q t us) es ≡ true

@@ -46,7 +46,8 @@ named-word (m ∷ ms) n h =
     words-append (word n) (words_named_in m) (flat_map words_named_in ms)
     ∙ elim (or_cases (is_binding n m) (list_any (is_binding n) ms) h) [
       | inl here ↦ or_left (words_have (words_named_in m) (word n)) (words_have (flat_map words_named_in ms) (word n)) (named-in m n here)
-      | inr there ↦ or_right (words_have (words_named_in m) (word n)) (words_have (flat_map words_named_in ms) (word n)) (named-word ms n there)
+      | inr there ↦ or_right (words_have (words_named_in m) (word n)) (words_have (flat_map words_named_in ms) (word n))
+          (named-word ms n there)
     ]
 
 of-bindings : (us : List Qual) (n : List ℕ) → list_any (is_binding n) (of_bindings us) ≡ has (map name_of_use us) n
@@ -137,7 +138,8 @@ module _ (n : List ℕ) where
     own-named (places.Method name) h =
         method-named (λ m. bytes_eq m.name name) (find (λ m. bytes_eq m.name name) b.methods) refl h
     own-named (places.Producer name) h =
-        producer-named (λ r. bytes_eq r.name name && not r.is_static) (find (λ r. bytes_eq r.name name && not r.is_static) b.producers) refl h
+        producer-named (λ r. bytes_eq r.name name && not r.is_static)
+        (find (λ r. bytes_eq r.name name && not r.is_static) b.producers) refl h
     own-named (places.Observer name) h =
         observer-named (λ o. bytes_eq o.name name) (find (λ o. bytes_eq o.name name) b.observers) refl h
 

@@ -31,7 +31,8 @@ module _ (edits : List Edit) (ds : List Decl) (told : List DeclKey) (distinct : 
   by-class classes are = same-bool (goes_by_class ds es m classes class place) (goes ds es class place) there back
     where
       there : goes_by_class ds es m classes class place ≡ true → goes ds es class place ≡ true
-      there h = any-elim (λ n. bytes_eq class n && list_any (λ q. same_place place q && goes ds es n q) (parts_under m n)) classes h (λ n one.
+      there h = any-elim (λ n. bytes_eq class n && list_any (λ q. same_place place q && goes ds es n q) (parts_under m n)) classes h
+          (λ n one.
           let first = and_parts (bytes_eq class n) (list_any (λ q. same_place place q && goes ds es n q) (parts_under m n)) one in
           any-elim (λ q. same_place place q && goes ds es n q) (parts_under m n) first.1 (λ q two.
           let both = and_parts (same_place place q) (goes ds es n q) two in
@@ -83,7 +84,8 @@ pub chains-between : (sides : Sides) → IsBetween sides → AreDistinct sides.i
     → (m : Chains) → ArePlaces sides.index.now.decls m → (classes : List (List ℕ))
     → ((n : List ℕ) → list_any (bytes_eq n) classes ≡ is_chain_suspect sides.index.now.decls sides.next.now sides.affected.now n)
     → (class : List ℕ) (place : BeanPlace) → is_kept_chain m class place ≡ true
-    → goes_by_class sides.index.now.decls sides.next.now m classes class place ≡ not (stays sides.index.now.decls sides.next.now class place)
+    → goes_by_class sides.index.now.decls sides.next.now m classes class place
+    ≡ not (stays sides.index.now.decls sides.next.now class place)
 chains-between sides between distinct apart m wanted classes are class place kept =
     grind (
       arith,

@@ -55,7 +55,8 @@ any-use p (u ∷ us) x h holds = elim (or_cases (bytes_eq u.name x) (has (map na
   | inr there ↦ or_right (p u.name) (list_any (λ u. p u.name) us) (any-use p us x there holds)
 ]
 
-names-filtered : (p : Qual → Bool) (us : List Qual) (x : List ℕ) → has (map name_of_use (filter p us)) x ≡ true → has (map name_of_use us) x ≡ true
+names-filtered : (p : Qual → Bool) (us : List Qual) (x : List ℕ) → has (map name_of_use (filter p us)) x ≡ true
+    → has (map name_of_use us) x ≡ true
 names-filtered p [] x h = h
 names-filtered p (u ∷ us) x h = grind (arith, names-filtered p us x, u.name)
 
@@ -89,7 +90,11 @@ module _ (ds : List Decl) where
           → (find_decl kinds.Bean class ds ≡ Some (decls.Bean b)) × (b.name ≡ class)
       by None at h = absurd (let no : None ≡ Some b = h in cc)
       by (Some (decls.Bean x)) at h =
-          let one : x ≡ b = cc in (at ∙ ap (λ y. Some (decls.Bean y)) one, ap (λ (y : BeanDecl). y.name) (sym one) ∙ sym (name_in (decls.Bean x) at))
+          let one : x ≡ b = cc in (
+            at ∙ ap (λ y. Some (decls.Bean y)) one,
+            ap (λ (y : BeanDecl). y.name) (sym one)
+                ∙ sym (name_in (decls.Bean x) at),
+          )
       by (Some (decls.Type x)) at h = absurd (let no : None ≡ Some b = h in cc)
       by (Some (decls.Qualifier x)) at h = absurd (let no : None ≡ Some b = h in cc)
       by (Some (decls.Binding x)) at h = absurd (let no : None ≡ Some b = h in cc)
@@ -98,7 +103,8 @@ module _ (ds : List Decl) where
 
   module _ (class : List ℕ) (b : BeanDecl) (found : find_bean class ds ≡ Some b) where
     -- the class of a bean with the word of a binding type is among those of the type
-    bound : (n : List ℕ) → words_have (words_by ds (decls.Bean b)) (word_at reasons.Binds n) ≡ true → holds (classes_bound ds n) class ≡ true
+    bound : (n : List ℕ) → words_have (words_by ds (decls.Bean b)) (word_at reasons.Binds n) ≡ true
+        → holds (classes_bound ds n) class ≡ true
     bound n has =
         let there = bean-there class b found in
         let test : Decl → Bool = has_one ds (word_at reasons.Binds n ∷ []) in
@@ -116,9 +122,11 @@ module _ (ds : List Decl) where
     by-chain n x has (suc k, (u, step, more)) = or_right (holds (classes_bound ds x) class) (list_any (brings_to ds x class) ds)
         (at (find_decl kinds.Binding n ds) refl (reads-brought n x u step (k, more)))
       where
-        at : (o : Option Decl) → find_decl kinds.Binding n ds ≡ o → reads (made_of ds (key_at kinds.Binding n)) (key_at kinds.Binding x) ≡ true
+        at : (o : Option Decl) → find_decl kinds.Binding n ds ≡ o
+            → reads (made_of ds (key_at kinds.Binding n)) (key_at kinds.Binding x) ≡ true
             → list_any (brings_to ds x class) ds ≡ true
-        at None none read = absurd (false≢true (ap (λ o. reads (option_map (made_of_binding ds) (as_binding o)) (key_at kinds.Binding x)) (sym none) ∙ read))
+        at None none read = absurd (false≢true (ap (λ o. reads (option_map (made_of_binding ds) (as_binding o)) (key_at kinds.Binding x))
+            (sym none) ∙ read))
         at (Some d) there read =
             let one : key_of d ≡ key_at kinds.Binding n = sym (key-found kinds.Binding n ds d there) in
             found_any kinds.Binding n ds d (brings_to ds x class) there
@@ -130,7 +138,8 @@ module _ (ds : List Decl) where
         → is_intercepted ds x class ≡ true
     own-intercepted place x h =
         let us : List Qual = own_bindings b place in
-        let from = (brings_type_decides ds (map name_of_use us) x).0 (sym (types_brought-has ds (map name_of_use us) x) ∙ brought-within ds us x h) in
+        let from = (brings_type_decides ds (map name_of_use us) x).0
+        (sym (types_brought-has ds (map name_of_use us) x) ∙ brought-within ds us x h) in
         by-chain from.0 x (own-word from.0 b ds place from.1) from.2
 
     class-intercepted : (x : List ℕ) → has (map name_of_use (class_bindings ds b)) x ≡ true → is_intercepted ds x class ≡ true
@@ -155,10 +164,12 @@ module _ (ds : List Decl) where
     set-intercepted other x h = class-intercepted x h
 
   -- each type of a binding at a place intercepts the class
-  at-place : (class : List ℕ) (place : BeanPlace) (x : List ℕ) → has (map name_of_use (set_at ds class place)) x ≡ true → is_intercepted ds x class ≡ true
+  at-place : (class : List ℕ) (place : BeanPlace) (x : List ℕ) → has (map name_of_use (set_at ds class place)) x ≡ true
+      → is_intercepted ds x class ≡ true
   at-place class place x h = by (find_bean class ds) refl h
     where
-      by : (o : Option BeanDecl) → find_bean class ds ≡ o → has (map name_of_use (set_of ds o place)) x ≡ true → is_intercepted ds x class ≡ true
+      by : (o : Option BeanDecl) → find_bean class ds ≡ o → has (map name_of_use (set_of ds o place)) x ≡ true
+          → is_intercepted ds x class ≡ true
       by None found e = absurd (false≢true e)
       by (Some b) found e = set-intercepted class b found place x e
 
@@ -193,7 +204,8 @@ module _ (edits : List Edit) (ds : List Decl) (told : List DeclKey) (distinct : 
   place-same place = ap (λ o. option_map_or (λ b. has_place b place) o false) found-same
 
   -- a binding type from which a chain leads to an edited one is told
-  chain-told : (n y : List ℕ) → is_among keys (key_at kinds.Binding y) ≡ true → Chain (brings ds) n y → is_among told (key_at kinds.Binding n) ≡ true
+  chain-told : (n y : List ℕ) → is_among keys (key_at kinds.Binding y) ≡ true → Chain (brings ds) n y
+      → is_among told (key_at kinds.Binding n) ≡ true
   chain-told n y edited (zero, same) =
       ap (λ m. is_among told (key_at kinds.Binding m)) same ∙ tells.edited (key_at kinds.Binding y) refl edited
   chain-told n y edited (suc k, (u, step, more)) = by (is_among told (key_at kinds.Binding n)) refl
@@ -214,10 +226,12 @@ module _ (edits : List Edit) (ds : List Decl) (told : List DeclKey) (distinct : 
       by false e = refl
       by true e =
           let it = named (types_brought ds (map name_of_use us)) key e in
-          let from = (brings_type_decides ds (map name_of_use us) it.name).0 (sym (types_brought-has ds (map name_of_use us) it.name) ∙ it.has_it) in
+          let from = (brings_type_decides ds (map name_of_use us) it.name).0
+          (sym (types_brought-has ds (map name_of_use us) it.name) ∙ it.has_it) in
           let among : is_among told (key_at kinds.Binding from.0) ≡ true =
           chain-told from.0 it.name (ap (is_among keys) (sym it.is) ∙ edited) from.2 in
-          absurd (false≢true (sym (suspect (key_at kinds.Binding from.0) among) ∙ bound ds class b found from.0 (own-word from.0 b ds place from.1)))
+          absurd (false≢true (sym (suspect (key_at kinds.Binding from.0) among)
+          ∙ bound ds class b found from.0 (own-word from.0 b ds place from.1)))
 
   record-avoid : (b : BeanDecl) → find_bean class ds ≡ Some b → Avoid (record_reads ds b) edits
   record-avoid b found key edited =
@@ -257,7 +271,8 @@ module _ (edits : List Edit) (ds : List Decl) (told : List DeclKey) (distinct : 
         by : (b : Bool) → uses_one list x ≡ b → b ≡ false
         by false e = refl
         by true e = absurd (false≢true (sym none ∙ any-use (λ n. is_intercepted ds n class) i.bindings x (in-names (is_enabled i) h)
-            (at-place ds class place x (sym (uses_by_name (set_at ds class place) x) ∙ sym (any-in_text_order (λ v. bytes_eq x v.name) (set_at ds class place)) ∙ e))))
+            (at-place ds class place x (sym (uses_by_name (set_at ds class place) x)
+            ∙ sym (any-in_text_order (λ v. bytes_eq x v.name) (set_at ds class place)) ∙ e))))
 
     nothing : (all : List Decl) (i : InterceptorDecl) → is_intercepted_by ds class i.bindings ≡ false
         → interceptor_given list place all (decls.Interceptor i) ≡ []

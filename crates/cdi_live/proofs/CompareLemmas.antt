@@ -21,7 +21,8 @@ module _ {X Y : Type 0} (f : X → List Y) (q : Y → Bool) (all : List X) where
   abbrev found_at : ℕ → List Y
   found_at p = option_map_or f (slice_get all p) []
 
-  none-there : (n : ℕ) (marks : List Bool) → ((i : ℕ) → slice_get all (n + i) ≡ None) → filter q (flat_map found_at (marked_from n marks)) ≡ []
+  none-there : (n : ℕ) (marks : List Bool) → ((i : ℕ) → slice_get all (n + i) ≡ None)
+      → filter q (flat_map found_at (marked_from n marks)) ≡ []
   none-there n [] none = refl
   none-there n (m ∷ ms) none = by m (none-there (n + 1) ms (λ i. ap (slice_get all) (omega arith) ∙ none (suc i)))
     where
@@ -44,7 +45,8 @@ module _ {X Y : Type 0} (f : X → List Y) (q : Y → Bool) (all : List X) where
   gather n [] xs here others = sym (none-given xs (λ i x there. others i x there refl))
   gather n (m ∷ ms) [] here others = none-there n (m ∷ ms) here
   gather n (m ∷ ms) (x ∷ xs) here others =
-      by m refl (gather (n + 1) ms xs (λ i. ap (slice_get all) (omega arith) ∙ here (suc i)) (λ i y there none. others (suc i) y there none))
+      by m refl (gather (n + 1) ms xs (λ i. ap (slice_get all) (omega arith) ∙ here (suc i))
+      (λ i y there none. others (suc i) y there none))
     where
       first : found_at n ≡ f x
       first = ap (λ o. option_map_or f o []) (ap (slice_get all) (omega arith) ∙ here 0)
@@ -81,7 +83,8 @@ among-marked test n (m ∷ ms) (suc i) marked h = by m (among-marked test (n + 1
 
 module _ (sides : Sides) (between : IsBetween sides) (distinct : AreDistinct sides.index.now.decls) (apart : AreDistinct sides.next.now)
     (words : List Word) (before : List Bool)
-    (found : (p : ℕ) → is_marked before p ≡ option_map_or (has_one sides.index.now.decls words) (slice_get sides.index.now.decls p) false) where
+    (found : (p : ℕ) → is_marked before p ≡ option_map_or (has_one sides.index.now.decls words)
+    (slice_get sides.index.now.decls p) false) where
   abbrev ds : List Decl
   ds = sides.index.now.decls
 
@@ -93,9 +96,11 @@ module _ (sides : Sides) (between : IsBetween sides) (distinct : AreDistinct sid
   at-own p d there = ap (λ o. option_map_or (λ i. nat_eq i p) o false) (own-position es p d apart there) ∙ nat_eq-refl p
 
   -- where a declaration is found
-  placed : (o : Option ℕ) (d : Decl) → position (is_of (kind_of d) (name_of_decl d)) ds ≡ o → find_decl (kind_of d) (name_of_decl d) ds ≡ Some d
+  placed : (o : Option ℕ) (d : Decl) → position (is_of (kind_of d) (name_of_decl d)) ds ≡ o
+      → find_decl (kind_of d) (name_of_decl d) ds ≡ Some d
       → (q : ℕ) × (slice_get ds q ≡ Some d)
-  placed None d none there = absurd (false≢true (ap is_there (sym none) ∙ position-found (kind_of d) (name_of_decl d) ds ∙ ap is_there there))
+  placed None d none there = absurd (false≢true
+      (ap is_there (sym none) ∙ position-found (kind_of d) (name_of_decl d) ds ∙ ap is_there there))
     where
       is_there : {X : Type 0} → Option X → Bool
       is_there None = false
@@ -110,7 +115,8 @@ module _ (sides : Sides) (between : IsBetween sides) (distinct : AreDistinct sid
       let k = key_of d in
       let unedited : is_among sides.edited.now k ≡ false = not-edited (is_among sides.edited.now k) refl in
       let same : find_decl (kind_of d) (name_of_decl d) ds ≡ Some d =
-      sym (edits_keep_decl between.edited.edits ds (kind_of d) (name_of_decl d) (ap (λ ks. is_among ks k) (sym between.edited.keys) ∙ unedited))
+      sym (edits_keep_decl between.edited.edits ds (kind_of d) (name_of_decl d)
+      (ap (λ ks. is_among ks k) (sym between.edited.keys) ∙ unedited))
       ∙ ap (find_decl (kind_of d) (name_of_decl d)) (sym between.edited.decls) ∙ own-found es p d apart there in
       let here = placed (position (is_of (kind_of d) (name_of_decl d)) ds) d refl same in
       (here, without (has_one ds words d) refl here.0 here.1)
@@ -136,7 +142,8 @@ module _ (sides : Sides) (between : IsBetween sides) (distinct : AreDistinct sid
       (list_any (λ w. is_listed sides.changed.now w p) words) none in
       by (is_among sides.affected.now (key_of d)) refl parts.0 parts.1
     where
-      by : (b : Bool) → is_among sides.affected.now (key_of d) ≡ b → list_any (λ q. is_place_of_one ds es q p) (marked_from 0 before) ≡ false
+      by : (b : Bool) → is_among sides.affected.now (key_of d) ≡ b
+          → list_any (λ q. is_place_of_one ds es q p) (marked_from 0 before) ≡ false
           → list_any (λ w. is_listed sides.changed.now w p) words ≡ false
           → (list_any (words_have (words_at es p)) words ≡ false)
           ⊎ ((is_among sides.affected.now (key_of d) ≡ false) × (((q : ℕ) × (slice_get ds q ≡ Some d)) × (has_one ds words d ≡ false)))

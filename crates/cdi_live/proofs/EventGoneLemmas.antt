@@ -64,7 +64,8 @@ module _ (sees : List ℕ → List Qual → Bool) (t : List ℕ) (us : List Qual
       ]
 
   -- what of some types sees something is what sees it, where each other does not
-  sees-by-type : (parts : List ℕ → List (List Qual)) → list_any (same_quals us) (parts t) ≡ true → (types : List (List ℕ)) (is_among_them : Bool)
+  sees-by-type : (parts : List ℕ → List (List Qual)) → list_any (same_quals us) (parts t) ≡ true
+      → (types : List (List ℕ)) (is_among_them : Bool)
       → list_any (bytes_eq t) types ≡ is_among_them → (is_among_them ≡ false → sees t us ≡ false) → of_types parts types ≡ sees t us
   sees-by-type parts own types is_among_them same spared = grind (arith, same-bool, some-sees, at-type, false≢true)
 
@@ -72,7 +73,8 @@ module _ (sees : List ℕ → List Qual → Bool) (t : List ℕ) (us : List Qual
 
 module _ (edits : List Edit) (ds : List Decl) (distinct : AreDistinct ds) (apart : AreDistinct (edited_all ds edits)) (m : Events)
     (t : List ℕ) (us : List Qual) (kept : is_kept m t us ≡ true) (wanted : is_wanted ds (EventKey t us) ≡ true) (drops : Drops)
-    (are : (s : List ℕ) (vs : List Qual) → drops s vs ≡ (is_kept m s vs && not (is_asked_after ds (edited_all ds edits) (edited_keys edits) questions.Event s vs))) where
+    (are : (s : List ℕ) (vs : List Qual) → drops s
+    vs ≡ (is_kept m s vs && not (is_asked_after ds (edited_all ds edits) (edited_keys edits) questions.Event s vs))) where
   abbrev es : List Decl
   es = edited_all ds edits
 
@@ -86,7 +88,8 @@ module _ (edits : List Edit) (ds : List Decl) (distinct : AreDistinct ds) (apart
   fired = sym (event-wanted-is t us ds) ∙ wanted
 
   drops-own : drops t us ≡ unwanted
-  drops-own = are t us ∙ ap (λ b. b && not (is_asked_after ds es keys questions.Event t us)) kept ∙ ap not (fired-after t us edits ds distinct apart)
+  drops-own = are t us ∙ ap (λ b. b && not (is_asked_after ds es keys questions.Event t us)) kept
+      ∙ ap not (fired-after t us edits ds distinct apart)
 
   -- what a declaration drops is what it fires, and is not wanted
   dropped-in : (x : Mention) → is_dropped_in drops t us x ≡ (asks_in questions.Event t us x && unwanted)
@@ -139,7 +142,8 @@ module _ (edits : List Edit) (ds : List Decl) (distinct : AreDistinct ds) (apart
               ∙ and_from (asks_for questions.Event t us d) unwanted firing none)
           by d found firing false apart_from = absurd (false≢true (sym (not-true (is_wanted es (EventKey t us)) none)
               ∙ sym (fired-after t us edits ds distinct apart)
-              ∙ or_left _ _ (found_any (kind_of d) (name_of_decl d) ds d (λ x. not (is_among keys (key_of x)) && asks_for questions.Event t us x) found
+              ∙ or_left _ _ (found_any (kind_of d) (name_of_decl d) ds d
+              (λ x. not (is_among keys (key_of x)) && asks_for questions.Event t us x) found
               (and_from (not (is_among keys (key_of d))) (asks_for questions.Event t us d) (ap not apart_from) firing))))
 
   -- ---- both

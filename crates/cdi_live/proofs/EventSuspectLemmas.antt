@@ -111,11 +111,17 @@ used (u ∷ us) key h = elim (or_cases (same_key (key_at kinds.Qualifier u.name)
   | inl here ↦ record {
     name = u.name;
     is = sym (key_exact (key_at kinds.Qualifier u.name) key here);
-    has = or_left (same_word (word u.name) (word u.name)) (words_have (words_of_uses us) (word u.name)) (same_word_equiv.refl (word u.name));
+    has = or_left (same_word (word u.name) (word u.name)) (words_have (words_of_uses us) (word u.name))
+        (same_word_equiv.refl (word u.name));
   }
   | inr there ↦
       let it = used us key there in
-      record { name = it.name; is = it.is; has = or_right (same_word (word u.name) (word it.name)) (words_have (words_of_uses us) (word it.name)) it.has }
+      record {
+        name = it.name;
+        is = it.is;
+        has = or_right (same_word (word u.name) (word it.name))
+            (words_have (words_of_uses us) (word it.name)) it.has;
+      }
 ]
 
 -- ---- the types of an event
@@ -125,7 +131,8 @@ alone : (ds : List Decl) (t s : List ℕ) → find_decl kinds.Type t ds ≡ None
 alone ds t s none c = grind (arith, c.0, c.1, false≢true)
 
 -- what an event of a kept type may have
-has-may : (ds : List Decl) (kept : List (List ℕ)) (t x : List ℕ) → holds kept t ≡ true → has (types_of ds t) x ≡ true → may_have ds kept x t ≡ true
+has-may : (ds : List Decl) (kept : List (List ℕ)) (t x : List ℕ) → holds kept t ≡ true → has (types_of ds t) x ≡ true
+    → may_have ds kept x t ≡ true
 has-may ds kept t x named h = by (find_decl kinds.Type t ds) refl
   where
     readers : Bool
@@ -179,7 +186,8 @@ module _ (edits : List Edit) (ds : List Decl) (told : List DeclKey) (distinct : 
 
   parts : ((is_among told (key_at kinds.Type t) || is_fired ds keys t) ≡ false)
       × (may_have_one ds kept (concerned_types ds es keys told) t ≡ false)
-  parts = or_parts (is_among told (key_at kinds.Type t) || is_fired ds keys t) (may_have_one ds kept (concerned_types ds es keys told) t) clear
+  parts = or_parts (is_among told (key_at kinds.Type t) || is_fired ds keys t)
+      (may_have_one ds kept (concerned_types ds es keys told) t) clear
 
   first : (is_among told (key_at kinds.Type t) ≡ false) × (is_fired ds keys t ≡ false)
   first = or_parts (is_among told (key_at kinds.Type t)) (is_fired ds keys t) parts.0
@@ -199,7 +207,8 @@ module _ (edits : List Edit) (ds : List Decl) (told : List DeclKey) (distinct : 
       by None none =
           let keep : (s : List ℕ) → is_type es t s ≡ is_type ds t s =
           same_types_apart keys ds es t (edits_keep_others edits ds)
-          (λ s edited chain. false≢true (sym unedited ∙ ap (λ n. is_among keys (key_at kinds.Type n)) (alone ds t s none chain) ∙ edited)) in
+          (λ s edited chain. false≢true (sym unedited ∙ ap (λ n. is_among keys (key_at kinds.Type n)) (alone ds t s none chain)
+          ∙ edited)) in
           sym (types_of-is es t (types_of ds t) (types_of-rises ds t) (λ s. types_of-has ds t s ∙ sym (keep s)))
 
   -- what is observed by what is concerned is none of them
@@ -231,7 +240,8 @@ module _ (edits : List Edit) (ds : List Decl) (told : List DeclKey) (distinct : 
   given list d = observer_given types list d
 
   -- a told declaration gives nothing, before and after
-  nothing-before : (b : BeanDecl) → IsPresent ds (decls.Bean b) → is_among told (key_at kinds.Bean b.name) ≡ true → given ds (decls.Bean b) ≡ []
+  nothing-before : (b : BeanDecl) → IsPresent ds (decls.Bean b) → is_among told (key_at kinds.Bean b.name) ≡ true
+      → given ds (decls.Bean b) ≡ []
   unfolding names_under
   nothing-before b there among = event_by_words types ds (decls.Bean b) there (λ x h.
       let k = key_at kinds.Bean b.name in
@@ -240,7 +250,8 @@ module _ (edits : List Edit) (ds : List Decl) (told : List DeclKey) (distinct : 
       ∙ or_left (holds (observed_of ds k) x) (holds (observed_of es k) x)
       (ap (λ o. holds (option_map_or types_observed o []) x) there ∙ h)))
 
-  nothing-after : (b : BeanDecl) → IsPresent es (decls.Bean b) → is_among told (key_at kinds.Bean b.name) ≡ true → given es (decls.Bean b) ≡ []
+  nothing-after : (b : BeanDecl) → IsPresent es (decls.Bean b) → is_among told (key_at kinds.Bean b.name) ≡ true
+      → given es (decls.Bean b) ≡ []
   unfolding names_under
   nothing-after b there among = event_by_words types es (decls.Bean b) there (λ x h.
       let k = key_at kinds.Bean b.name in
@@ -280,7 +291,8 @@ module _ (edits : List Edit) (ds : List Decl) (told : List DeclKey) (distinct : 
     keep-methods : (ms : List ObserverDecl)
         → ((w : Word) → words_have (flat_map words_of_observer ms) w ≡ true → words_have (words_by ds (decls.Bean b)) w ≡ true)
         → ((x : List ℕ) → holds (event_types ms) x ≡ true → holds (types_observed (decls.Bean b)) x ≡ true)
-        → map (ranked_observer es) (filter (observes types) (map of_bean ms)) ≡ map (ranked_observer ds) (filter (observes types) (map of_bean ms))
+        → map (ranked_observer es) (filter (observes types) (map of_bean ms))
+        ≡ map (ranked_observer ds) (filter (observes types) (map of_bean ms))
     keep-methods [] words own = refl
     keep-methods (m ∷ ms) words own =
         by (has types m.event_type) refl
@@ -429,9 +441,11 @@ module _ (edits : List Edit) (ds : List Decl) (told : List DeclKey) (distinct : 
         → map (λ u. find_qualifier u.name ds) vs ≡ map (λ u. find_qualifier u.name es) vs
     declared-same [] none = refl
     declared-same (v ∷ vs) none =
-        ap (λ o. as_qualifier o ∷ map (λ u. find_qualifier u.name ds) vs) (sym (edits_keep_decl edits ds kinds.Qualifier v.name (own (is_among keys (key_at kinds.Qualifier v.name)) refl)))
+        ap (λ o. as_qualifier o ∷ map (λ u. find_qualifier u.name ds) vs)
+        (sym (edits_keep_decl edits ds kinds.Qualifier v.name (own (is_among keys (key_at kinds.Qualifier v.name)) refl)))
         ∙ ap (λ rest. find_qualifier v.name es ∷ rest)
-        (declared-same vs (λ q edited. (or_parts (same_word (word v.name) (word q)) (words_have (words_of_uses vs) (word q)) (none q edited)).1))
+        (declared-same vs (λ q edited. (or_parts (same_word (word v.name) (word q)) (words_have (words_of_uses vs) (word q))
+        (none q edited)).1))
       where
         own : (b : Bool) → is_among keys (key_at kinds.Qualifier v.name) ≡ b → b ≡ false
         own false e = refl

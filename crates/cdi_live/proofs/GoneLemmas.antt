@@ -82,13 +82,15 @@ module _ (edits : List Edit) (ds : List Decl) (told : List DeclKey) (distinct : 
   -- ---- by who asks
 
   module _ (asks : Asks) (at_before : asks.before ≡ ds)
-      (drops : (s : List ℕ) (vs : List Qual) → asks.drops s vs ≡ (is_kept m s vs && not (is_asked_after ds es keys questions.Choice s vs))) where
+      (drops : (s : List ℕ) (vs : List Qual) → asks.drops s
+      vs ≡ (is_kept m s vs && not (is_asked_after ds es keys questions.Choice s vs))) where
     un-not : (b : Bool) → not b ≡ true → b ≡ false
     un-not true h = absurd (false≢true h)
     un-not false h = refl
 
     drops-own : asks.drops t us ≡ not (is_wanted es (ChoiceKey t us))
-    drops-own = drops t us ∙ ap (λ b. b && not (is_asked_after ds es keys questions.Choice t us)) kept ∙ ap not (asked-after questions.Choice t us edits ds distinct apart ∙ sym (wanted-is t us es))
+    drops-own = drops t us ∙ ap (λ b. b && not (is_asked_after ds es keys questions.Choice t us)) kept
+        ∙ ap not (asked-after questions.Choice t us edits ds distinct apart ∙ sym (wanted-is t us es))
 
     -- what a declaration drops is what it asks for, and is not wanted
     dropped-in : (x : Mention) → is_dropped_in asks t us x ≡ (asks_in questions.Choice t us x && not (is_wanted es (ChoiceKey t us)))
@@ -103,7 +105,8 @@ module _ (edits : List Edit) (ds : List Decl) (told : List DeclKey) (distinct : 
             ∙ ap (asks.drops t) (sym ((same_quals-decides us (required point.qualifiers)).0 both.1)) ∙ drops-own
     dropped-in other = refl
 
-    dropped-any : (xs : List Mention) → list_any (is_dropped_in asks t us) xs ≡ (list_any (asks_in questions.Choice t us) xs && not (is_wanted es (ChoiceKey t us)))
+    dropped-any : (xs : List Mention) → list_any (is_dropped_in asks t us) xs
+        ≡ (list_any (asks_in questions.Choice t us) xs && not (is_wanted es (ChoiceKey t us)))
     dropped-any [] = refl
     dropped-any (x ∷ xs) =
         (λ i. dropped-in x i || dropped-any xs i)
@@ -128,7 +131,8 @@ module _ (edits : List Edit) (ds : List Decl) (told : List DeclKey) (distinct : 
           where
             by : (o : Option Decl) → option_map_or (is_dropped_by asks t us) o false ≡ true → not (is_wanted es (ChoiceKey t us)) ≡ true
             by None none = absurd (false≢true none)
-            by (Some d) dropped = (and_parts (asks_for questions.Choice t us d) (not (is_wanted es (ChoiceKey t us))) (sym (dropped-by d) ∙ dropped)).1
+            by (Some d) dropped = (and_parts (asks_for questions.Choice t us d) (not (is_wanted es (ChoiceKey t us)))
+                (sym (dropped-by d) ∙ dropped)).1
 
         back : not (is_wanted es (ChoiceKey t us)) ≡ true → list_any (is_dropped_at asks t us) keys ≡ true
         back unwanted =
@@ -143,7 +147,8 @@ module _ (edits : List Edit) (ds : List Decl) (told : List DeclKey) (distinct : 
                 ∙ and_from (asks_for questions.Choice t us d) (not (is_wanted es (ChoiceKey t us))) asking unwanted)
             by d found asking false none = absurd (false≢true (sym (un-not (is_wanted es (ChoiceKey t us)) unwanted)
                 ∙ sym (asked-after questions.Choice t us edits ds distinct apart ∙ sym (wanted-is t us es))
-                ∙ or_left _ _ (found_any (kind_of d) (name_of_decl d) ds d (λ x. not (is_among keys (key_of x)) && asks_for questions.Choice t us x) found
+                ∙ or_left _ _ (found_any (kind_of d) (name_of_decl d) ds d
+                (λ x. not (is_among keys (key_of x)) && asks_for questions.Choice t us x) found
                 (and_from (not (is_among keys (key_of d))) (asks_for questions.Choice t us d) (ap not none) asking))))
 
     -- ---- both
@@ -162,7 +167,8 @@ module _ (edits : List Edit) (ds : List Decl) (told : List DeclKey) (distinct : 
         turned false false = refl
 
 -- what goes is known of declarations that edits lead to
-abbrev GoesOn : List Decl → List DeclKey → Answers (List Qual) Choice → Asks → List (List ℕ) → List ℕ → List Qual → List Decl → List DeclKey → Type 0
+abbrev GoesOn : List Decl → List DeclKey → Answers (List Qual) Choice → Asks → List (List ℕ) → List ℕ → List Qual → List Decl
+    → List DeclKey → Type 0
 GoesOn ds told m asks types t us e ks = Tells ds e ks told → AreDistinct e
     → ((s : List ℕ) (vs : List Qual) → asks.drops s vs ≡ (is_kept m s vs && not (is_asked_after ds e ks questions.Choice s vs)))
     → ((n : List ℕ) → list_any (bytes_eq n) types ≡ holds (suspects ds e ks told) n)
@@ -174,7 +180,8 @@ pub gone-between : (sides : Sides) → IsBetween sides → AreDistinct sides.ind
     → ((s : List ℕ) (vs : List Qual) → asks.drops s vs
     ≡ (is_kept m s vs && not (is_asked_after sides.index.now.decls sides.next.now sides.edited.now questions.Choice s vs)))
     → (types : List (List ℕ))
-    → ((n : List ℕ) → list_any (bytes_eq n) types ≡ holds (suspects sides.index.now.decls sides.next.now sides.edited.now sides.affected.now) n)
+    → ((n : List ℕ) → list_any (bytes_eq n) types ≡ holds
+    (suspects sides.index.now.decls sides.next.now sides.edited.now sides.affected.now) n)
     → (t : List ℕ) (us : List Qual) → is_kept m t us ≡ true
     → (goes_by_type (sees_other sides.index.now.decls sides.next.now) m types t us || list_any (is_dropped_at asks t us) sides.edited.now)
     ≡ not (stays_known sides.index.now.decls sides.next.now t us)

@@ -95,7 +95,8 @@ words-of-interceptor : (i : InterceptorDecl) → flat_map words_named_in (mentio
 unfolding mentions
 words-of-interceptor i = grind (arith, i.bindings, flat_map-append, named-bound)
 
-bound-named : (i : InterceptorDecl) (w : Word) → words_have (words_bound i.bindings) w ≡ true → words_have (words_named (decls.Interceptor i)) w ≡ true
+bound-named : (i : InterceptorDecl) (w : Word) → words_have (words_bound i.bindings) w ≡ true
+    → words_have (words_named (decls.Interceptor i)) w ≡ true
 bound-named i w h = grind (arith, i.bindings, among-named, words-of-interceptor, words-append)
 
 -- an interceptor of which no binding has one of the words shares no type with those

@@ -35,19 +35,22 @@ events_in [] = []
 events_in (EventKey t us ∷ keys) = (t, us) ∷ events_in keys
 events_in (other ∷ keys) = events_in keys
 
-has-choice : (keys : List Key) (q : Question (List Qual)) → list_any (same_question same_quals q) (choices_in keys) ≡ has_key keys (ChoiceKey q.0 q.1)
+has-choice : (keys : List Key) (q : Question (List Qual))
+    → list_any (same_question same_quals q) (choices_in keys) ≡ has_key keys (ChoiceKey q.0 q.1)
 has-choice [] q = refl
 has-choice (ChoiceKey t us ∷ keys) q = ap (λ b. (bytes_eq q.0 t && same_quals q.1 us) || b) (has-choice keys q)
 has-choice (ChainKey class place ∷ keys) q = has-choice keys q
 has-choice (EventKey t us ∷ keys) q = has-choice keys q
 
-has-chain : (keys : List Key) (q : Question BeanPlace) → list_any (same_question same_place q) (chains_in keys) ≡ has_key keys (ChainKey q.0 q.1)
+has-chain : (keys : List Key) (q : Question BeanPlace)
+    → list_any (same_question same_place q) (chains_in keys) ≡ has_key keys (ChainKey q.0 q.1)
 has-chain [] q = refl
 has-chain (ChoiceKey t us ∷ keys) q = has-chain keys q
 has-chain (ChainKey class place ∷ keys) q = ap (λ b. (bytes_eq q.0 class && same_place q.1 place) || b) (has-chain keys q)
 has-chain (EventKey t us ∷ keys) q = has-chain keys q
 
-has-event : (keys : List Key) (q : Question (List Qual)) → list_any (same_question same_quals q) (events_in keys) ≡ has_key keys (EventKey q.0 q.1)
+has-event : (keys : List Key) (q : Question (List Qual))
+    → list_any (same_question same_quals q) (events_in keys) ≡ has_key keys (EventKey q.0 q.1)
 has-event [] q = refl
 has-event (ChoiceKey t us ∷ keys) q = has-event keys q
 has-event (ChainKey class place ∷ keys) q = has-event keys q
@@ -65,7 +68,8 @@ one-more eq q qs key keys has apart rest =
 
 choices-distinct : (keys : List Key) → IsDistinct same_key keys → IsDistinct (same_question same_quals) (choices_in keys)
 choices-distinct [] apart = differ-nil (same_question same_quals)
-choices-distinct (ChoiceKey t us ∷ keys) apart = one-more same_quals (t, us) (choices_in keys) (ChoiceKey t us) keys (has-choice keys (t, us)) apart
+choices-distinct (ChoiceKey t us ∷ keys) apart = one-more same_quals (t, us) (choices_in keys) (ChoiceKey t us) keys
+    (has-choice keys (t, us)) apart
     (choices-distinct keys (IsDistinct-tail same_key (ChoiceKey t us) keys apart))
 choices-distinct (ChainKey class place ∷ keys) apart = choices-distinct keys (IsDistinct-tail same_key (ChainKey class place) keys apart)
 choices-distinct (EventKey t us ∷ keys) apart = choices-distinct keys (IsDistinct-tail same_key (EventKey t us) keys apart)
@@ -82,7 +86,8 @@ events-distinct : (keys : List Key) → IsDistinct same_key keys → IsDistinct 
 events-distinct [] apart = differ-nil (same_question same_quals)
 events-distinct (ChoiceKey t us ∷ keys) apart = events-distinct keys (IsDistinct-tail same_key (ChoiceKey t us) keys apart)
 events-distinct (ChainKey class place ∷ keys) apart = events-distinct keys (IsDistinct-tail same_key (ChainKey class place) keys apart)
-events-distinct (EventKey t us ∷ keys) apart = one-more same_quals (t, us) (events_in keys) (EventKey t us) keys (has-event keys (t, us)) apart
+events-distinct (EventKey t us ∷ keys) apart = one-more same_quals (t, us) (events_in keys) (EventKey t us) keys
+    (has-event keys (t, us)) apart
     (events-distinct keys (IsDistinct-tail same_key (EventKey t us) keys apart))
 
 -- ---- how many are known

@@ -19,35 +19,41 @@ abbrev stays : List Decl → List Decl → List ℕ → BeanPlace → Bool
 stays ds es class place = is_wanted es (ChainKey class place) && not (is_touched ds es (ChainKey class place))
 
 module _ (ds es : List Decl) (m new : Chains) (list : List GoneChain) (gone : AreGoneChains ds es m list)
-    (forgets : (c : List ℕ) (p : BeanPlace) → answer same_place new c p ≡ (if is_gone_chain list c p then None else answer same_place m c p)) where
+    (forgets : (c : List ℕ) (p : BeanPlace) → answer same_place new c
+    p ≡ (if is_gone_chain list c p then None else answer same_place m c p)) where
   -- a chain that is kept after was kept before, and stays
   record Stays (class : List ℕ) (place : BeanPlace) : Type 0 where
     same : answer same_place new class place ≡ answer same_place m class place
     stays_it : stays ds es class place ≡ true
 
   un-not : (b : Bool) → false ≡ not b → b ≡ true
-  un-not t1 h = grind (arith, false≢true)
+  un-not b h = grind (arith, false≢true)
 
   staying : (class : List ℕ) (place : BeanPlace) → is_kept_chain new class place ≡ true → Stays class place
   staying class place kept = grind (arith, false≢true, un-not)
 
   pub places-after : ArePlaces es new
   places-after class place kept =
-      (and_parts (is_wanted es (ChainKey class place)) (not (is_touched ds es (ChainKey class place))) (staying class place kept).stays_it).0
+      (and_parts (is_wanted es (ChainKey class place)) (not (is_touched ds es (ChainKey class place)))
+      (staying class place kept).stays_it).0
 
   seen-chain : (a b : Seen) → ByChain a ≡ ByChain b → a ≡ b
   seen-chain a b e = cc
 
   -- a place that is there has a chain
-  told : (class : List ℕ) (place : BeanPlace) → is_place_of es class place ≡ true → (names : List (List ℕ)) × (chain_of es class place ≡ Ok names)
+  told : (class : List ℕ) (place : BeanPlace) → is_place_of es class place ≡ true
+      → (names : List (List ℕ)) × (chain_of es class place ≡ Ok names)
   told class place there = by (find_bean class es) refl there
     where
       by : (o : Option BeanDecl) → find_bean class es ≡ o → option_map_or (λ b. has_place b place) o false ≡ true
           → (names : List (List ℕ)) × (chain_of es class place ≡ Ok names)
       by None found h = absurd (false≢true h)
       by (Some b) found h =
-          let names : List (List ℕ) = map (λ i. i.name) (chain_by es (set_by es (class_bindings es b) b place) place) in
-          (names, ap (λ o. chain_told es o place) found ∙ ap (λ (c : Bool). cond {A = Result (List (List ℕ)) Refusal} c (Ok names) (Err refusals.NoMethod)) h)
+          let names : List (List ℕ) = map (λ i. i.name) (chain_by es (set_by es (class_bindings es b) b place) place) in (
+            names,
+            ap (λ o. chain_told es o place) found ∙ ap (λ (c : Bool). cond {A = Result (List (List ℕ)) Refusal} c (Ok names)
+                (Err refusals.NoMethod)) h,
+          )
 
   pub right-chains-after : AreDistinct es → AreRightChains ds m → AreRightChains es new
   right-chains-after apart right class place names kept =
@@ -58,7 +64,8 @@ module _ (ds es : List Decl) (m new : Chains) (list : List GoneChain) (gone : Ar
 module _ (ds : List Decl) (m new : Chains) (class : List ℕ) (place : BeanPlace) (names : List (List ℕ))
     (keeps : (c : List ℕ) (p : BeanPlace) → answer same_place new c p
     ≡ (if bytes_eq class c && same_place place p then Some names else answer same_place m c p)) where
-  pub known-chain-with : (c : List ℕ) (p : BeanPlace) → is_kept_chain new c p ≡ (is_kept_chain m c p || (bytes_eq class c && same_place place p))
+  pub known-chain-with : (c : List ℕ) (p : BeanPlace)
+      → is_kept_chain new c p ≡ (is_kept_chain m c p || (bytes_eq class c && same_place place p))
   known-chain-with c p = grind arith
 
   pub right-chains-with : chain_of ds class place ≡ Ok names → AreRightChains ds m → AreRightChains ds new
@@ -69,7 +76,8 @@ module _ (ds : List Decl) (m new : Chains) (class : List ℕ) (place : BeanPlace
       by true e f =
           let parts = and_parts (bytes_eq class c) (same_place place p) e in
           let one : names ≡ others = cc in
-          ap (λ x. chain_of ds x p) (sym ((bytes_decides class c).0 parts.0)) ∙ ap (chain_of ds class) (sym ((same_place-decides place p).0 parts.1))
+          ap (λ x. chain_of ds x p) (sym ((bytes_decides class c).0 parts.0))
+          ∙ ap (chain_of ds class) (sym ((same_place-decides place p).0 parts.1))
           ∙ is ∙ ap Ok one
       by false e f = right c p others f
 
@@ -88,6 +96,7 @@ module _ (ds : List Decl) (m new : Chains) (class : List ℕ) (place : BeanPlace
 
 pub forget-next-chain : (items rest : List GoneChain) (one : GoneChain) (old new : Chains) → items ≡ rest ++ one ∷ []
     → Removes same_place one.class one.place old new → (c : List ℕ) (p : BeanPlace)
-    → (if is_gone_chain rest c p then None else answer same_place new c p) ≡ (if is_gone_chain items c p then None else answer same_place old c p)
+    → (if is_gone_chain rest c p then None else answer same_place new c p)
+    ≡ (if is_gone_chain items c p then None else answer same_place old c p)
 forget-next-chain items rest one old new are removes c p =
     grind (arith, one.class, one.place, bytes_eq-turned, same_place_equiv.symm, list_any-append)

@@ -41,10 +41,12 @@ module _ {A : Type 0} (key : List ℕ → List Qual → Key) (value : List Decl 
   staying ds es t us = is_wanted es (key t us) && not (is_touched ds es (key t us))
 
   -- after a commit
-  module _ (ds es : List Decl) (rests : (t : List ℕ) (us : List Qual) → not (is_touched ds es (key t us)) ≡ true → value ds t us ≡ value es t us)
+  module _ (ds es : List Decl) (rests : (t : List ℕ) (us : List Qual) → not (is_touched ds es (key t us)) ≡ true
+      → value ds t us ≡ value es t us)
       (m new : Answers (List Qual) A) (list : List Gone)
       (gone : (t : List ℕ) (us : List Qual) → kept m t us ≡ true → is_gone list t us ≡ not (staying ds es t us))
-      (forgets : (t : List ℕ) (us : List Qual) → answer same_quals new t us ≡ (if is_gone list t us then None else answer same_quals m t us)) where
+      (forgets : (t : List ℕ) (us : List Qual)
+      → answer same_quals new t us ≡ (if is_gone list t us then None else answer same_quals m t us)) where
     -- an answer that is kept after was kept before, and stays
     record Stays (t : List ℕ) (us : List Qual) : Type 0 where
       same : answer same_quals new t us ≡ answer same_quals m t us
@@ -92,7 +94,8 @@ module _ {A : Type 0} (key : List ℕ → List Qual → Key) (value : List Decl 
       where
         by : (b : Bool) → is_it s vs ≡ b → (if b then Some a else answer same_quals m s vs) ≡ Some other → other ≡ value ds s vs
         by true e f =
-            let parts = and_parts (bytes_eq t s) (same_quals us vs) (and_parts (is_wanted ds (key t us)) (bytes_eq t s && same_quals us vs) e).1 in
+            let parts = and_parts (bytes_eq t s) (same_quals us vs)
+            (and_parts (is_wanted ds (key t us)) (bytes_eq t s && same_quals us vs) e).1 in
             let one : a ≡ other = cc in
             sym one ∙ is ∙ ap (λ x. value ds x us) ((bytes_decides t s).0 parts.0) ∙ ap (value ds s) ((same_quals-decides us vs).0 parts.1)
         by false e f = right s vs other f
@@ -120,27 +123,32 @@ same-choice : (ds es : List Decl) (t : List ℕ) (us : List Qual) → not (is_to
     → choice_of ds t us ≡ choice_of es t us
 same-choice ds es t us h = grind (arith, choice_rests_on_seen, touched_where_seen_differs)
 
-same-ids : (ds es : List Decl) (t : List ℕ) (us : List Qual) → not (is_touched ds es (EventKey t us)) ≡ true → ids_of ds t us ≡ ids_of es t us
+same-ids : (ds es : List Decl) (t : List ℕ) (us : List Qual) → not (is_touched ds es (EventKey t us)) ≡ true
+    → ids_of ds t us ≡ ids_of es t us
 same-ids ds es t us h = grind (arith, notified_rest_on_seen, touched_where_seen_differs)
 
 -- ---- a commit
 
-module _ (ds es : List Decl) (memos new : Memos) (going : Going) (are : AreGoing ds es memos going) (forgets : Forgets memos going new) where
+module _ (ds es : List Decl) (memos new : Memos) (going : Going) (are : AreGoing ds es memos going)
+    (forgets : Forgets memos going new) where
   pub kept-after-commit : AreKept ds memos → AreKept es new
   kept-after-commit is = record {
-    choices = right-after ChoiceKey choice_of ds es (same-choice ds es) memos.choices new.choices going.choices.items are.choices forgets.choices
+    choices = right-after ChoiceKey choice_of ds es
+        (same-choice ds es) memos.choices new.choices going.choices.items are.choices forgets.choices
         is.choices;
     chains = right-chains-after ds es memos.chains new.chains going.chains.items are.chains forgets.chains are.distinct is.chains;
-    events = right-after EventKey ids_of ds es (same-ids ds es) memos.events new.events going.events.items are.events forgets.events is.events;
+    events = right-after EventKey ids_of ds es
+        (same-ids ds es) memos.events new.events going.events.items are.events forgets.events is.events;
     asked = record {
-      choices = wanted-after ChoiceKey choice_of ds es (same-choice ds es) memos.choices new.choices going.choices.items are.choices forgets.choices;
+      choices = wanted-after ChoiceKey choice_of ds es
+          (same-choice ds es) memos.choices new.choices going.choices.items are.choices forgets.choices;
       chains = places-after ds es memos.chains new.chains going.chains.items are.chains forgets.chains;
       events = wanted-after EventKey ids_of ds es (same-ids ds es) memos.events new.events going.events.items are.events forgets.events;
     };
   }
 
 none-either : (b : Bool) (o : Option Choice) → o ≡ None → (if b then None else o) ≡ None
-none-either t1 o h = grind arith
+none-either b o h = grind arith
 
 -- where no choice is kept, none is after some are forgotten
 default-after : (us : List Qual) (m new : Choices) (gone : List ℕ → List Qual → Bool)
@@ -159,7 +167,8 @@ live-after index after memos new by_default before now going live was none is fo
     ap (λ (s : IndexState). s.decls) is ∙ ap (λ o. (committed_to index o).decls) staged.staged in
     record {
       default = default-after by_default memos.choices new.choices (is_gone going.choices.items) forgets.choices live.default;
-      kept = subst (λ d. AreKept d new) (sym decls) (kept-after-commit index.decls staged.next.decls memos new going staged.are forgets live.kept);
+      kept = subst (λ d. AreKept d new) (sym decls)
+          (kept-after-commit index.decls staged.next.decls memos new going staged.are forgets live.kept);
       staged = subst (MayGo after new) (sym none) tt;
     }
 
@@ -173,7 +182,8 @@ chosen-by-required ds t us = grind arith
 -- one more choice
 module _ (ds : List Decl) (memos : Memos) (new : Choices) (t : List ℕ) (us : List Qual) (choice : Choice)
     (keeps : (s : List ℕ) (vs : List Qual) → answer same_quals new s vs
-    ≡ (if is_wanted ds (ChoiceKey t us) && (bytes_eq t s && same_quals us vs) then Some choice else answer same_quals memos.choices s vs)) where
+    ≡ (if is_wanted ds (ChoiceKey t us) && (bytes_eq t s && same_quals us vs) then Some choice else answer same_quals memos.choices s
+    vs)) where
   abbrev with_choice : Memos
   with_choice = record { choices = new; chains = memos.chains; events = memos.events }
 
@@ -264,7 +274,8 @@ made-default us now none made = made ∙ ap (λ l. put_use l default_use) (nil_f
 pub ruleset default_or_none = (default-there, made-default)
 
 -- what is lent is right
-pub right-lent : (ds : List Decl) (m : Choices) (t : List ℕ) (us uses : List Qual) → AreRight ds m → uses ≡ required us → (o : Option Choice)
+pub right-lent : (ds : List Decl) (m : Choices) (t : List ℕ) (us uses : List Qual) → AreRight ds m → uses ≡ required us
+    → (o : Option Choice)
     → o ≡ answer same_quals m t uses → IfSome o (λ choice. choice ≡ choice_of ds t us)
 right-lent ds m t us uses right same None is = tt
 right-lent ds m t us uses right same (Some choice) is =

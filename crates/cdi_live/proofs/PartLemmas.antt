@@ -29,10 +29,10 @@ within (y ∷ ys) zero x at = omega arith
 within (y ∷ ys) (suc i) x at = omega (arith, within ys i x at)
 
 pub regroup : (g b l x : Bool) → ((g || (b && l)) || (b && x)) ≡ (g || (b && (l || x)))
-regroup t1 b l x = grind arith
+regroup g b l x = grind arith
 
 pub nothing-more : (g b : Bool) → g ≡ (g || (b && false))
-nothing-more t1 b = grind arith
+nothing-more g b = grind arith
 
 -- nothing is lent
 pub none-copied : {X : Type 0} (o : Option (Bor X)) → is_some o ≡ false → option_copied o ≡ None

@@ -52,10 +52,12 @@ module _ (es : List Decl) (keys : List DeclKey) (listings : List Listing) (liste
       where
         by : (b : Bool) → words_have (words_at es p) w ≡ b → b ≡ false
         by false e = refl
-        by true e = absurd (false≢true (sym none ∙ listed w p ∙ any-among (is_listed_for es w p) keys (key_of d) among (listed-there w ∙ e)))
+        by true e = absurd (false≢true (sym none ∙ listed w p
+            ∙ any-among (is_listed_for es w p) keys (key_of d) among (listed-there w ∙ e)))
 
     -- the declaration of a key has none of the words under which its position is not listed
-    pub none-had : (words : List Word) → list_any (λ w. is_listed listings w p) words ≡ false → list_any (words_have (words_at es p)) words ≡ false
+    pub none-had : (words : List Word) → list_any (λ w. is_listed listings w p) words ≡ false
+        → list_any (words_have (words_at es p)) words ≡ false
     none-had [] none = refl
     none-had (w ∷ words) none =
         let parts = or_parts (is_listed listings w p) (list_any (λ v. is_listed listings v p) words) none in

@@ -60,16 +60,22 @@ record IsUsed (key : DeclKey) (words : List Word) : Type 0 where
 
 used : (us : List Qual) (key : DeclKey) → is_among (map (λ u. key_at kinds.Qualifier u.name) us) key ≡ true → IsUsed key (words_of_uses us)
 used [] key h = absurd (false≢true h)
-used (u ∷ us) key h = elim (or_cases (same_key (key_at kinds.Qualifier u.name) key) (is_among (map (λ u. key_at kinds.Qualifier u.name) us) key) h) [
-  | inl here ↦ record {
-    name = u.name;
-    is = sym (key_exact (key_at kinds.Qualifier u.name) key here);
-    has = or_left (same_word (word u.name) (word u.name)) (words_have (words_of_uses us) (word u.name)) (same-word u.name);
-  }
-  | inr there ↦
-      let it = used us key there in
-      record { name = it.name; is = it.is; has = or_right (same_word (word u.name) (word it.name)) (words_have (words_of_uses us) (word it.name)) it.has }
-]
+used (u ∷ us) key h = elim (or_cases (same_key (key_at kinds.Qualifier u.name) key)
+    (is_among (map (λ u. key_at kinds.Qualifier u.name) us) key) h) [
+      | inl here ↦ record {
+        name = u.name;
+        is = sym (key_exact (key_at kinds.Qualifier u.name) key here);
+        has = or_left (same_word (word u.name) (word u.name)) (words_have (words_of_uses us) (word u.name)) (same-word u.name);
+      }
+      | inr there ↦
+          let it = used us key there in
+          record {
+            name = it.name;
+            is = it.is;
+            has = or_right (same_word (word u.name) (word it.name))
+                (words_have (words_of_uses us) (word it.name)) it.has;
+          }
+    ]
   where
     same-word : (n : List ℕ) → same_word (word n) (word n) ≡ true
     same-word n = same_word_equiv.refl (word n)
@@ -258,7 +264,8 @@ module _ (edits : List Edit) (ds : List Decl) (told : List DeclKey) (distinct : 
             let parts = and_parts (bytes_eq t point.required_type) (same_quals us (required point.qualifiers)) h in
             let one : us ≡ required point.qualifiers = uses-exact (required point.qualifiers) parts.1 in
             let same : required us ≡ required point.qualifiers = ap required one ∙ required-twice point.qualifiers in (
-              λ has. or_right (same_word (word_at reasons.Asks point.required_type) w) (words_have (words_of_uses (required point.qualifiers)) w)
+              λ has. or_right (same_word (word_at reasons.Asks point.required_type) w)
+                  (words_have (words_of_uses (required point.qualifiers)) w)
                   (ap (λ qs. words_have (words_of_uses qs) w) (sym same) ∙ has),
               or_left (bytes_eq point.required_type t) false (bytes_eq-turned point.required_type t ∙ parts.0),
             )
@@ -280,7 +287,8 @@ module _ (edits : List Edit) (ds : List Decl) (told : List DeclKey) (distinct : 
             ∙ holds-append (types_of_records (entries ds it.0)) (asked_types it.0) t
             ∙ or_right (holds (types_of_records (entries ds it.0)) t) (holds (asked_types it.0) t) asks.types))
 
-    alike : (vs : List Qual) → ((q : List ℕ) → is_among keys (key_at kinds.Qualifier q) ≡ true → words_have (words_of_uses vs) (word q) ≡ false)
+    alike : (vs : List Qual) → ((q : List ℕ) → is_among keys (key_at kinds.Qualifier q) ≡ true
+        → words_have (words_of_uses vs) (word q) ≡ false)
         → list_all (λ u. declare_alike ds es u.name) vs ≡ true
     alike [] none = refl
     alike (v ∷ vs) none = and_from (declare_alike ds es v.name) (list_all (λ u. declare_alike ds es u.name) vs)

@@ -41,7 +41,8 @@ wanted-place ds distinct class place = same-bool (is_wanted ds (ChainKey class p
         by : (d : Decl) → IsPresent ds d → asks class place d ≡ true → is_place_of ds class place ≡ true
         by (decls.Bean b) at h =
             let parts = and_parts (bytes_eq class b.name) (has_place b place) h in
-            ap (λ n. is_place_of ds n place) (one_text class b.name parts.0) ∙ ap (λ o. option_map_or (λ x. has_place x place) (as_bean o) false) at ∙ parts.1
+            ap (λ n. is_place_of ds n place) (one_text class b.name parts.0)
+            ∙ ap (λ o. option_map_or (λ x. has_place x place) (as_bean o) false) at ∙ parts.1
         by (decls.Type d) at h = absurd (false≢true h)
         by other at h = absurd (false≢true h)
 

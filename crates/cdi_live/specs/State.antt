@@ -91,7 +91,8 @@ seen index memos work going = record {
 
 -- Each kept choice is the chosen bean.
 abbrev pub AreRight : List Decl → Answers (List Qual) Choice → Type 0
-AreRight ds m = (t : List ℕ) (us : List Qual) (choice : Choice) → answer same_quals m t us ≡ Some choice → choice ≡ chosen ds (beans ds) t us
+AreRight ds m = (t : List ℕ) (us : List Qual) (choice : Choice) → answer same_quals m t us ≡ Some choice
+    → choice ≡ chosen ds (beans ds) t us
 
 -- The kept observer methods of each event are those that are notified.
 abbrev pub AreRightEvents : List Decl → Events → Type 0

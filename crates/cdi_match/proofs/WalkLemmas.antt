@@ -60,7 +60,8 @@ declared-cons : (which : Links) (ds : List Decl) (name : List ℕ) (names : List
 declared-cons which ds name names = grind (arith, is_some)
 
 -- one position more gives its name
-names-one : (ds : List Decl) (name : List ℕ) (i : ℕ) (xs ys : List ℕ) → option_to_list (option_map name_of_decl (slice_get ds i)) ≡ name ∷ []
+names-one : (ds : List Decl) (name : List ℕ) (i : ℕ) (xs ys : List ℕ)
+    → option_to_list (option_map name_of_decl (slice_get ds i)) ≡ name ∷ []
     → HasOneMore i xs ys → HasOneMore name (names_at ds xs) (names_at ds ys)
 names-one ds name i xs ys at more = (
   names_at ds more.0,
@@ -91,7 +92,8 @@ name-at kind ds name i at = by (find_decl kind name ds) refl
 one_left : (marks : List Bool) (i : ℕ) → i < length marks → has_mark marks (Some i) ≡ false
     → HasOneMore i (marked_from 0 marks) (marked_from 0 (slice_set marks i true))
 one_left marks i within unmarked =
-    subst (λ k. HasOneMore k (marked_from 0 marks) (marked_from 0 (slice_set marks i true))) (zero-add i) (marked_from-set 0 marks i within unmarked)
+    subst (λ k. HasOneMore k (marked_from 0 marks) (marked_from 0 (slice_set marks i true))) (zero-add i)
+    (marked_from-set 0 marks i within unmarked)
 
 longer : (i : ℕ) (marks marks' : List Bool) → HasOneMore i (marked_from 0 marks) (marked_from 0 marks')
     → marked_count marks' ≡ marked_count marks + 1
@@ -184,7 +186,8 @@ one_taken : (old new : Walk) (p : ℕ) → slice_index_or old.left p false ≡ t
     → HasOneMore p (marked_from 0 new.left) (marked_from 0 old.left)
 one_taken old new p was taken =
     subst (λ ms. HasOneMore p (marked_from 0 ms) (marked_from 0 old.left)) (sym taken)
-    (subst (λ k. HasOneMore k (marked_from 0 (slice_set old.left p false)) (marked_from 0 old.left)) (zero-add p) (marked_from-unset 0 old.left p was))
+    (subst (λ k. HasOneMore k (marked_from 0 (slice_set old.left p false)) (marked_from 0 old.left)) (zero-add p)
+    (marked_from-unset 0 old.left p was))
 
 pub fewer-tasks : (old new : Walk) (p : ℕ) → new.marks ≡ old.marks → slice_index_or old.left p false ≡ true
     → new.left ≡ slice_set old.left p false → tasks new + 1 ≡ tasks old
@@ -292,7 +295,8 @@ walk-all which ds starts w s walking empty is =
           let chain : ChainFromOne (leads (next_declared which ds)) (declared_among which ds starts) s =
           (c.0, among-has which ds starts c.0 steps.1 c.1, ((c.2).0, steps.0)) in
           Closing-all (next_declared which ds) (declared_among which ds starts) (has_met which ds w)
-          (subst (λ ns. Closing (next_declared which ds) (declared_among which ds starts) (has_met which ds w) ns) (ap (names_at ds) (marked_from-none 0 w.left empty))
+          (subst (λ ns. Closing (next_declared which ds) (declared_among which ds starts) (has_met which ds w) ns)
+          (ap (names_at ds) (marked_from-none 0 w.left empty))
           walking) s chain,
     )
     (is_led_to_decides which ds starts s)

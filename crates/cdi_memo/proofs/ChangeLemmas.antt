@@ -10,7 +10,7 @@ use Rattle.cdi_memo.specs.Answers.{answer, answers_in, how_many, parts_under, An
 use Rattle.cdi_memo.specs.Laws.{AreOnce, NamesHaveParts}
 
 pub turned : (b s : Bool) → s ≡ not b → b ≡ not s
-turned t1 s is = grind arith
+turned b s is = grind arith
 
 pub some-there : {X Y : Type 0} (test : X → Bool) (es : List (X × Y)) (y : Y) → lookup test es ≡ Some y → 0 < length es
 some-there test [] y found = absurd (let no : None ≡ Some y = found in cc)
@@ -47,7 +47,8 @@ module _ {Q A S : Type 0} (eq : Q → Q → Bool) where
 
   pub answer-in : (es : List (List ℕ × IndexMap Q A S)) (n : List ℕ) (q : Q)
       → answer eq (answers_in es) n q ≡ answer_at (lookup (bytes_eq n) es) q
-  answer-in es n q = ap (λ o. option_map_or (λ parts. lookup (eq q) parts) o None) (lookup-map_values (λ (m : IndexMap Q A S). m.entries) (bytes_eq n) es)
+  answer-in es n q = ap (λ o. option_map_or (λ parts. lookup (eq q) parts) o None)
+      (lookup-map_values (λ (m : IndexMap Q A S). m.entries) (bytes_eq n) es)
 
   pub parts-in : (es : List (List ℕ × IndexMap Q A S)) (n : List ℕ)
       → parts_under (answers_in es) n ≡ parts_at (lookup (bytes_eq n) es)
@@ -79,7 +80,8 @@ module _ {Q A S : Type 0} (eq : Q → Q → Bool) where
       by : (b : Bool) → bytes_eq name n ≡ b
           → answer eq (answers_in es) n r ≡ cond (b && eq q r) None (answer eq (answers_in es) n r)
       by true e = gone (eq q r) (answer eq (answers_in es) n r)
-          (answer-in es n r ∙ ap (λ v. answer_at (lookup (bytes_eq v) es) r) (sym ((bytes_decides name n).0 e)) ∙ ap (λ o. answer_at o r) none)
+          (answer-in es n r ∙ ap (λ v. answer_at (lookup (bytes_eq v) es) r) (sym ((bytes_decides name n).0 e))
+          ∙ ap (λ o. answer_at o r) none)
       by false e = refl
 
   -- the map of the name is another, or is gone
@@ -107,13 +109,16 @@ module _ {Q A S : Type 0} (eq : Q → Q → Bool) where
 
     pub named : IfSome t (λ m. 0 < length m.entries) → NamesHaveParts (answers_in es) → NamesHaveParts (answers_in fs)
     named own all n =
-        subst (λ o. IfSome o (λ parts. 0 < length parts)) (sym (lookup-map_values (λ (m : IndexMap Q A S). m.entries) (bytes_eq n) fs ∙ ap (option_map (λ m. m.entries)) (put n)))
+        subst (λ o. IfSome o (λ parts. 0 < length parts))
+        (sym (lookup-map_values (λ (m : IndexMap Q A S). m.entries) (bytes_eq n) fs ∙ ap (option_map (λ m. m.entries)) (put n)))
         (by (bytes_eq name n))
       where
-        gone : (o : Option (IndexMap Q A S)) → IfSome o (λ m. 0 < length m.entries) → IfSome (option_map (λ m. m.entries) o) (λ parts. 0 < length parts)
+        gone : (o : Option (IndexMap Q A S)) → IfSome o (λ m. 0 < length m.entries)
+            → IfSome (option_map (λ m. m.entries) o) (λ parts. 0 < length parts)
         gone None h = h
         gone (Some m) h = h
 
         by : (b : Bool) → IfSome (option_map (λ m. m.entries) (cond b t (lookup (bytes_eq n) es))) (λ parts. 0 < length parts)
         by true = gone t own
-        by false = subst (λ o. IfSome o (λ parts. 0 < length parts)) (lookup-map_values (λ (m : IndexMap Q A S). m.entries) (bytes_eq n) es) (all n)
+        by false = subst (λ o. IfSome o (λ parts. 0 < length parts))
+            (lookup-map_values (λ (m : IndexMap Q A S). m.entries) (bytes_eq n) es) (all n)

@@ -114,7 +114,8 @@ module _ {Q A : Type 0} where
   names-below (e ∷ m) d have =
       let rest = names-below m (IsDistinct-tail bytes_eq e.0 (keys_of m) d) (have-rest e m d have) in
       let first : 0 < length e.1 =
-      subst (λ b. IfSome (cond b (Some e.1) (lookup (bytes_eq e.0) m)) (λ parts. 0 < length parts)) (nat_list_eq_equiv.refl e.0) (have e.0) in
+      subst (λ b. IfSome (cond b (Some e.1) (lookup (bytes_eq e.0) m)) (λ parts. 0 < length parts)) (nat_list_eq_equiv.refl e.0)
+      (have e.0) in
       let long = length-append (map (λ (p : Q × A). (e.0, p.0)) e.1) (questions m) in
       let row = length-map {B = Question Q} e.1 (λ p. (e.0, p.0)) in
       omega (arith, rest, first, long, row)
@@ -138,7 +139,8 @@ module _ {Q A : Type 0} (eq : Q → Q → Bool) (laws : IsEquivalence eq) where
       (λ k. questions-have eq m k once.0 ∙ by k (is_kept eq m k) (all k)
       ∙ sym (is_member-filter (alike eq laws) (is_kept eq m) k (λ l same. kept-congr m k l once.0 same) asked))
     where
-      by : (k : Question Q) (b : Bool) → (b ≡ true → list_any (same_question eq k) asked ≡ true) → b ≡ (list_any (same_question eq k) asked && b)
+      by : (k : Question Q) (b : Bool) → (b ≡ true → list_any (same_question eq k) asked ≡ true)
+          → b ≡ (list_any (same_question eq k) asked && b)
       by k true has = sym (ap (λ a. a && true) (has refl))
       by k false has = absent (list_any (same_question eq k) asked)
         where
@@ -169,13 +171,14 @@ module _ {Q A : Type 0} (eq : Q → Q → Bool) (laws : IsEquivalence eq) where
       (λ l. questions-have eq n l once'.0 ∙ is l ∙ sym (questions-have eq m l once.0))
 
   kept-or : (s : Bool) (a : A) (o : Option A) → is_some (cond s (Some a) o) ≡ (s || is_some o)
-  kept-or t1 a o = grind arith
+  kept-or s a o = grind arith
 
   -- A question more has an answer after one is kept that had each-fails.
   pub count-more : (name : List ℕ) (q : Q) (a : A) (m n : Answers Q A) → AreOnce eq m → AreOnce eq n → Keeps eq name q a m n
       → is_kept eq m (name, q) ≡ false → how_many n ≡ how_many m + 1
   count-more name q a m n once once' keeps new =
-      one-more m n (name, q) once once' new (λ l. ap is_some (keeps l.0 l.1) ∙ kept-or (same_question eq (name, q) l) a (answer eq m l.0 l.1))
+      one-more m n (name, q) once once' new (λ l. ap is_some (keeps l.0 l.1)
+      ∙ kept-or (same_question eq (name, q) l) a (answer eq m l.0 l.1))
 
   -- As many have an answer after one is kept in the place of another.
   pub count-put : (name : List ℕ) (q : Q) (a : A) (m n : Answers Q A) → AreOnce eq m → AreOnce eq n → Keeps eq name q a m n
@@ -184,7 +187,8 @@ module _ {Q A : Type 0} (eq : Q → Q → Bool) (laws : IsEquivalence eq) where
       as-many m n once once'
       (λ l. ap is_some (keeps l.0 l.1) ∙ by l (same_question eq (name, q) l) (λ same. sym (kept-congr m (name, q) l once.0 same) ∙ old))
     where
-      by : (l : Question Q) (s : Bool) → (s ≡ true → is_kept eq m l ≡ true) → is_some (cond s (Some a) (answer eq m l.0 l.1)) ≡ is_kept eq m l
+      by : (l : Question Q) (s : Bool) → (s ≡ true → is_kept eq m l ≡ true)
+          → is_some (cond s (Some a) (answer eq m l.0 l.1)) ≡ is_kept eq m l
       by l true h = sym (h refl)
       by l false h = refl
 
@@ -197,7 +201,8 @@ module _ {Q A : Type 0} (eq : Q → Q → Bool) (laws : IsEquivalence eq) where
       (λ l. by l (same_question eq (name, q) l) (λ same. sym (kept-congr m (name, q) l once.0 same) ∙ old)
       ∙ ap (λ b. same_question eq (name, q) l || b) (sym (ap is_some (removes l.0 l.1))))
     where
-      by : (l : Question Q) (s : Bool) → (s ≡ true → is_kept eq m l ≡ true) → is_kept eq m l ≡ (s || is_some (cond s None (answer eq m l.0 l.1)))
+      by : (l : Question Q) (s : Bool) → (s ≡ true → is_kept eq m l ≡ true)
+          → is_kept eq m l ≡ (s || is_some (cond s None (answer eq m l.0 l.1)))
       by l true h = h refl
       by l false h = refl
 

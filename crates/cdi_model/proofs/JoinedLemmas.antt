@@ -16,7 +16,8 @@ put-joined d [] ys = refl
 put-joined d (x ∷ xs) ys = grind (arith, put-joined d xs ys, is_some)
 
 pub remove-joined : (kind : Kind) (name : List ℕ) (xs ys : List Decl)
-    → remove_from kind name (xs ++ ys) ≡ cond (is_some (find_decl kind name xs)) (remove_from kind name xs ++ ys) (xs ++ remove_from kind name ys)
+    → remove_from kind name (xs ++ ys) ≡ cond (is_some (find_decl kind name xs)) (remove_from kind name xs ++ ys)
+    (xs ++ remove_from kind name ys)
 remove-joined kind name [] ys = refl
 remove-joined kind name (x ∷ xs) ys = grind (arith, remove-joined kind name xs ys, is_some)
 
@@ -38,7 +39,8 @@ found-second kind name xs ys o none h = h ∙ ap (λ p. option_or p (find_decl k
 pub place-first : (kind : Kind) (name : List ℕ) (xs ys : List Decl) (i : ℕ) → Some i ≡ position (is_of kind name) xs
     → Some i ≡ position (is_of kind name) (xs ++ ys)
 place-first kind name xs ys i h =
-    ap (λ o. option_or o (option_map (λ i. length xs + i) (position (is_of kind name) ys))) h ∙ sym (position-joined (is_of kind name) xs ys)
+    ap (λ o. option_or o (option_map (λ i. length xs + i) (position (is_of kind name) ys))) h
+    ∙ sym (position-joined (is_of kind name) xs ys)
 
 pub place-second : (kind : Kind) (name : List ℕ) (xs ys : List Decl) (o : Option ℕ) → None ≡ position (is_of kind name) xs
     → o ≡ position (is_of kind name) ys → option_map (λ i. length xs + i) o ≡ position (is_of kind name) (xs ++ ys)

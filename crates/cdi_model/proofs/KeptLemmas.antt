@@ -24,7 +24,8 @@ none_alike key d ds same none = subst (λ k. Nowhere (has_key k) ds) (sym (key_e
     apart (e ∷ es) h = (h.0, apart es h.1)
 
 -- where keys differ, the first with a key is the only one
-pub stands-first : (key : DeclKey) (ds : List Decl) (p : ℕ) → IsDistinct same_key (keys_in ds) → First (has_key key) p ds → StandsAt key p ds
+pub stands-first : (key : DeclKey) (ds : List Decl) (p : ℕ) → IsDistinct same_key (keys_in ds) → First (has_key key) p ds
+    → StandsAt key p ds
 unfolding IsDistinct
 stands-first key [] p distinct h = h
 stands-first key (d ∷ ds) zero distinct h = (h, none_alike key d ds h distinct.0)

@@ -19,7 +19,8 @@ listed-distinct (d ∷ ds) distinct =
     AllPairs-cons (λ d e. key_of d ≢ key_of e) d ds
     (All-from_recursion (λ e. key_of d ≢ key_of e) ds (others ds distinct.0)) (listed-distinct ds distinct.1)
   where
-    others : (es : List Decl) → AllByRecursion (λ k. same_key (key_of d) k ≡ false) (keys_in es) → AllByRecursion (λ e. key_of d ≢ key_of e) es
+    others : (es : List Decl) → AllByRecursion (λ k. same_key (key_of d) k ≡ false) (keys_in es)
+        → AllByRecursion (λ e. key_of d ≢ key_of e) es
     others [] h = tt
     others (e ∷ es) h = (other_key (key_of d) (key_of e) h.0, others es h.1)
 

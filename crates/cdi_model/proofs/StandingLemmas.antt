@@ -65,7 +65,8 @@ module _ (base : List Decl) (gone changed : List Bool) (rs : List Replaced) (k :
     where
       by : (o : Option ℕ) → position (is_of kind name) base ≡ o → Nowhere (has_key (key_at kind name)) (kept gone (changed_by rs base))
       by None e = none_kept (key_at kind name) gone (changed_by rs base)
-          (Nowhere-position (has_key (key_at kind name)) (changed_by rs base) (keys-position kind name (changed_by rs base) base k.alike ∙ e))
+          (Nowhere-position (has_key (key_at kind name)) (changed_by rs base)
+          (keys-position kind name (changed_by rs base) base k.alike ∙ e))
       by (Some p) e = gone_kept (key_at kind name) gone (changed_by rs base) p (only-now kind name p e)
           (unmarked-none gone p (ap (unmarked gone) (sym e) ∙ h))
 

@@ -22,7 +22,7 @@ use Rattle.cdi_intercept.proofs.ChainLemmas.{in_order-declared, IsDeclared}
 -- ---- the names at a place are those that are told of it
 
 told-where : {X : Type 0} (has : Bool) (x : X) (refusal : Refusal) → has ≡ true → cond has (Ok x) (Err refusal) ≡ Ok x
-told-where t1 x refusal e = grind (arith, false≢true)
+told-where has x refusal e = grind (arith, false≢true)
 
 pub told-names : (ds : List Decl) (bean : BeanDecl) (place : BeanPlace) → find_bean bean.name ds ≡ Some bean → has_place bean place ≡ true
     → chain_of ds bean.name place ≡ Ok (names_at ds bean place)
@@ -40,7 +40,7 @@ told-same ds bean place names found there is =
 -- ---- an interceptor among those around a place
 
 kept-or-not : (b c own rest any : Bool) → (b ≡ true → c ≡ own) → rest ≡ (own && any) → cond c (b || rest) rest ≡ (own && (b || any))
-kept-or-not t1 u2 own rest any same is = grind arith
+kept-or-not b c own rest any same is = grind arith
 
 module _ (i : InterceptorDecl) where
   -- it has the name
@@ -68,7 +68,8 @@ module _ (ds : List Decl) (distinct : AreDistinct ds) where
   one-named : (x i : InterceptorDecl) → IsDeclared ds x → IsDeclared ds i → bytes_eq x.name i.name ≡ true → x ≡ i
   one-named x i at there e =
       let name : x.name ≡ i.name = one_text x.name i.name e in
-      let first : find_decl kinds.Interceptor x.name ds ≡ Some (decls.Interceptor x) = own-found ds at.0 (decls.Interceptor x) distinct at.1 in
+      let first : find_decl kinds.Interceptor x.name ds ≡ Some (decls.Interceptor x) = own-found ds at.0
+      (decls.Interceptor x) distinct at.1 in
       let second : find_decl kinds.Interceptor i.name ds ≡ Some (decls.Interceptor i) =
       own-found ds there.0 (decls.Interceptor i) distinct there.1 in
       let same : decls.Interceptor x ≡ decls.Interceptor i =
@@ -77,14 +78,16 @@ module _ (ds : List Decl) (distinct : AreDistinct ds) where
 
   only-named : (i : InterceptorDecl) → IsDeclared ds i → AllByRecursion (λ x. is_named i x ≡ true → x ≡ i) (in_order ds)
   only-named i there = recursion_from_All (λ x. is_named i x ≡ true → x ≡ i) (in_order ds) (λ k d lt.
-      one-named (get_or (in_order ds) k d) i (in_order-declared ds k (get_or (in_order ds) k d) (slice_get-get_or (in_order ds) k d lt)).0 there)
+      one-named (get_or (in_order ds) k d) i (in_order-declared ds k (get_or (in_order ds) k d) (slice_get-get_or (in_order ds) k d lt)).0
+      there)
 
   any-named : (i : InterceptorDecl) → IsDeclared ds i → is_enabled i ≡ true → list_any (is_named i) (in_order ds) ≡ true
   unfolding in_order
-  any-named i there enabled = any-sorted is_before (is_named i) (filter is_enabled (interceptors ds)) ∙ any-declared i ds there.0 there.1 enabled
+  any-named i there enabled = any-sorted is_before (is_named i) (filter is_enabled (interceptors ds))
+      ∙ any-declared i ds there.0 there.1 enabled
 
   and-true : (a b : Bool) → b ≡ true → (a && b) ≡ a
-  and-true t1 b e = grind arith
+  and-true a b e = grind arith
 
   has-of : (p : InterceptorDecl → Bool) (i : InterceptorDecl) → IsDeclared ds i → is_enabled i ≡ true
       → has (map (λ x. x.name) (filter p (in_order ds))) i.name ≡ p i
@@ -92,10 +95,12 @@ module _ (ds : List Decl) (distinct : AreDistinct ds) where
       ∙ and-true (p i) (list_any (is_named i) (in_order ds)) (any-named i there enabled)
 
 -- those around a place
-has-at : (ds : List Decl) (bean : BeanDecl) (place : BeanPlace) (i : InterceptorDecl) → AreDistinct ds → IsDeclared ds i → is_enabled i ≡ true
+has-at : (ds : List Decl) (bean : BeanDecl) (place : BeanPlace) (i : InterceptorDecl) → AreDistinct ds → IsDeclared ds i
+    → is_enabled i ≡ true
     → has (names_at ds bean place) i.name ≡ surrounds ds (set_by ds (class_bindings ds bean) bean place) place i
 unfolding chain_by
-has-at ds bean place i distinct there enabled = has-of ds distinct (surrounds ds (set_by ds (class_bindings ds bean) bean place) place) i there enabled
+has-at ds bean place i distinct there enabled = has-of ds distinct
+    (surrounds ds (set_by ds (class_bindings ds bean) bean place) place) i there enabled
 
 pub has-names_at : (ds : List Decl) (bean : BeanDecl) (place : BeanPlace) (k : ℕ) (i : InterceptorDecl) → AreDistinct ds
     → slice_get (in_order ds) k ≡ Some i
@@ -109,7 +114,9 @@ has-all : (ds : List Decl) (bean : BeanDecl) (i : InterceptorDecl) → AreDistin
 unfolding names_of_bean
 has-all ds bean i distinct there enabled =
     any-flat_map (λ n. bytes_eq n i.name) (names_at ds bean) (places_of bean)
-    ∙ any-same (λ place. has (names_at ds bean place) i.name) (λ place. surrounds ds (set_by ds (class_bindings ds bean) bean place) place i) (places_of bean) (λ place. has-at ds bean place i distinct there enabled)
+    ∙ any-same (λ place. has (names_at ds bean place) i.name)
+    (λ place. surrounds ds (set_by ds (class_bindings ds bean) bean place) place i) (places_of bean)
+    (λ place. has-at ds bean place i distinct there enabled)
     ∙ sym (any-sets ds (class_bindings ds bean) bean i (places_of bean))
 
 pub has-names : (ds : List Decl) (bean : BeanDecl) (k : ℕ) (i : InterceptorDecl) → AreDistinct ds → slice_get (in_order ds) k ≡ Some i
@@ -117,7 +124,8 @@ pub has-names : (ds : List Decl) (bean : BeanDecl) (k : ℕ) (i : InterceptorDec
 has-names ds bean k i distinct at = grind (arith, in_order-declared, has-all)
 
 -- one that is declared and enabled
-pub stands-named : (ds : List Decl) (bean : BeanDecl) (k : ℕ) (i : InterceptorDecl) → AreDistinct ds → slice_get ds k ≡ Some (decls.Interceptor i)
+pub stands-named : (ds : List Decl) (bean : BeanDecl) (k : ℕ) (i : InterceptorDecl) → AreDistinct ds
+    → slice_get ds k ≡ Some (decls.Interceptor i)
     → is_enabled i ≡ true → has (names_of_bean ds bean) i.name ≡ stands_around ds i bean
 unfolding stands_around
 stands-named ds bean k i distinct at enabled = grind (arith, has-all)
@@ -144,7 +152,8 @@ some-map : {X Y : Type 0} (f : X → Y) (xs : List X) → some (map f xs) ≡ so
 some-map f [] = refl
 some-map f (x ∷ xs) = refl
 
-some-at : (ds : List Decl) (bean : BeanDecl) (place : BeanPlace) → some (names_at ds bean place) ≡ is_around ds (class_bindings ds bean) bean place
+some-at : (ds : List Decl) (bean : BeanDecl) (place : BeanPlace)
+    → some (names_at ds bean place) ≡ is_around ds (class_bindings ds bean) bean place
 unfolding chain_by in_order
 some-at ds bean place =
     let set = set_by ds (class_bindings ds bean) bean place in

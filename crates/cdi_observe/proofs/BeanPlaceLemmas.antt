@@ -25,7 +25,8 @@ module _ (place : BeanPlace) where
   none-of f [] none = refl
   none-of f (x ∷ xs) none = ap (λ b. b || list_any is (map f xs)) (none x) ∙ none-of f xs none
 
-  mapped : {X : Type 0} (f : X → BeanPlace) (q : X → Bool) (xs : List X) → ((x : X) → is (f x) ≡ q x) → list_any is (map f xs) ≡ list_any q xs
+  mapped : {X : Type 0} (f : X → BeanPlace) (q : X → Bool) (xs : List X) → ((x : X) → is (f x) ≡ q x)
+      → list_any is (map f xs) ≡ list_any q xs
   mapped f q [] same = refl
   mapped f q (x ∷ xs) same = λ i. same x i || mapped f q xs same i
 
@@ -47,7 +48,8 @@ has-it b (places.Method name) =
     (none-of place (λ (o : ObserverDecl). places.Observer o.name) b.observers (λ o. refl))
     ∙ or-false (list_any (same_place place) (methods_of b) || false) ∙ or-false (list_any (same_place place) (methods_of b))
     ∙ mapped place (λ (m : MethodDecl). places.Method m.name) (λ m. bytes_eq name m.name) b.methods (λ m. refl)
-    ∙ found-any (λ (m : MethodDecl). bytes_eq name m.name) (λ m. bytes_eq m.name name) (λ m. m.bindings) b.methods (λ m. bytes_eq-turned name m.name)
+    ∙ found-any (λ (m : MethodDecl). bytes_eq name m.name) (λ m. bytes_eq m.name name) (λ m. m.bindings) b.methods
+    (λ m. bytes_eq-turned name m.name)
 has-it b (places.Producer name) =
     let place = places.Producer name in
     let own : List ProducerDecl = filter (λ r. not r.is_static) b.producers in
@@ -59,7 +61,8 @@ has-it b (places.Producer name) =
     ∙ or-false (list_any (same_place place) (producers_of b))
     ∙ mapped place (λ (r : ProducerDecl). places.Producer r.name) (λ r. bytes_eq name r.name) own (λ r. refl)
     ∙ filtered (λ (r : ProducerDecl). bytes_eq name r.name) (λ r. not r.is_static) b.producers
-    ∙ found-any (λ (r : ProducerDecl). bytes_eq name r.name && not r.is_static) (λ r. bytes_eq r.name name && not r.is_static) (λ r. r.bindings)
+    ∙ found-any (λ (r : ProducerDecl). bytes_eq name r.name && not r.is_static) (λ r. bytes_eq r.name name && not r.is_static)
+    (λ r. r.bindings)
     b.producers (λ r. ap (λ c. c && not r.is_static) (bytes_eq-turned name r.name))
 has-it b (places.Observer name) =
     let place = places.Observer name in
@@ -69,9 +72,11 @@ has-it b (places.Observer name) =
     ∙ ap (λ c. c || list_any (same_place place) (observers_of b))
     (none-of place (λ (r : ProducerDecl). places.Producer r.name) (filter (λ r. not r.is_static) b.producers) (λ r. refl))
     ∙ mapped place (λ (o : ObserverDecl). places.Observer o.name) (λ o. bytes_eq name o.name) b.observers (λ o. refl)
-    ∙ found-any (λ (o : ObserverDecl). bytes_eq name o.name) (λ o. bytes_eq o.name name) (λ o. o.bindings) b.observers (λ o. bytes_eq-turned name o.name)
+    ∙ found-any (λ (o : ObserverDecl). bytes_eq name o.name) (λ o. bytes_eq o.name name) (λ o. o.bindings) b.observers
+    (λ o. bytes_eq-turned name o.name)
 
-each-place : (P : BeanPlace → Type 0) (ps : List BeanPlace) → ((p : BeanPlace) → list_any (same_place p) ps ≡ true → P p) → AllByRecursion P ps
+each-place : (P : BeanPlace → Type 0) (ps : List BeanPlace) → ((p : BeanPlace) → list_any (same_place p) ps ≡ true → P p)
+    → AllByRecursion P ps
 each-place P [] each = tt
 each-place P (p ∷ ps) each = (
   each p (or_left (same_place p p) (list_any (same_place p) ps) ((same_place-decides p p).1 refl)),

@@ -11,15 +11,15 @@ use Rattle.cdi_observe.proofs.WantedLemmas.{each_once-apart, has-each_once}
 -- ---- two keys
 
 or-swap : (a b c : Bool) → ((a || b) || c) ≡ ((a || c) || b)
-or-swap t1 b c = grind arith
+or-swap a b c = grind arith
 
 counts-swap : (a b : Bool) (w : ℕ) → cond a (cond b w (with_one w)) (with_one (cond b w (with_one w)))
     ≡ cond b (cond a w (with_one w)) (with_one (cond a w (with_one w)))
-counts-swap t1 u2 w = grind arith
+counts-swap a b w = grind arith
 
 -- a key that is another is known after that only where it was
 apart-known : (a b c : Bool) → c ≡ false → (a || (b && c)) ≡ a
-apart-known t1 b c e = grind arith
+apart-known a b c e = grind arith
 
 module _ (ds : List Decl) (knows : Key → Bool) (work : ℕ) where
   -- the work of the second, after the first
@@ -34,12 +34,12 @@ module _ (ds : List Decl) (knows : Key → Bool) (work : ℕ) where
 
   swap-at : (k l : Key) (keeps : Bool) → after_key ds k (after_key ds l (before keeps)) ≡ after_key ds l (after_key ds k (before keeps))
   unfolding after_key
-  swap-at k l t1 = grind (arith, or-swap, second-swap)
+  swap-at k l keeps = grind (arith, or-swap, second-swap)
 
   twice-at : (k : Key) (keeps : Bool) → is_wanted ds k ≡ true
       → after_key ds k (after_key ds k (before keeps)) ≡ after_key ds k (before keeps)
   unfolding after_key
-  twice-at k t1 wants = grind (arith, after_known, same_key-equiv.refl)
+  twice-at k keeps wants = grind (arith, after_known, same_key-equiv.refl)
 
 -- two evaluations leave the same in either order
 after-swap : (ds : List Decl) (k l : Key) (kept : Kept) → after_key ds k (after_key ds l kept) ≡ after_key ds l (after_key ds k kept)
@@ -74,7 +74,8 @@ each-absorbed ds [] all kept wants has = refl
 each-absorbed ds (k ∷ keys) all kept wants has =
     each-absorbed ds keys all (after_key ds k kept) wants.1 has.1 ∙ absorbed ds k all kept wants.0 has.0
 
-either-first : (ds : List Decl) (xs ys : List Key) (kept : Kept) → evaluated ds ys (evaluated ds xs kept) ≡ evaluated ds xs (evaluated ds ys kept)
+either-first : (ds : List Decl) (xs ys : List Key) (kept : Kept)
+    → evaluated ds ys (evaluated ds xs kept) ≡ evaluated ds xs (evaluated ds ys kept)
 either-first ds [] ys kept = refl
 either-first ds (x ∷ xs) ys kept = either-first ds xs ys (after_key ds x kept) ∙ ap (evaluated ds xs) (after-evaluated ds x ys kept)
 

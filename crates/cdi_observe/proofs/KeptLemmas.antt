@@ -33,7 +33,7 @@ evaluated-next ds es keys i key kept before after lt at same is next = grind (ar
 
 -- what is known to start with stays known
 or_same : (b c : Bool) → (c ≡ true → b ≡ true) → (b || c) ≡ b
-or_same t1 c within = grind (arith, false≢true)
+or_same b c within = grind (arith, false≢true)
 
 -- a known key changes nothing
 pub after_known : (ds : List Decl) (key : Key) (kept : Kept) → kept.knows key ≡ true → after_key ds key kept ≡ kept
@@ -76,7 +76,7 @@ unknown-apart knows k (l ∷ keys) apart = grind (arith, unknown-apart knows k k
 
 counts-one : (k : Key) (keys : List Key) (b : Bool) (w : ℕ)
     → iterate with_one (length keys) (cond b w (with_one w)) ≡ iterate with_one (length (cond (not b) (k ∷ keys) keys)) w
-counts-one k keys t1 w = grind arith
+counts-one k keys b w = grind arith
 
 -- wanted keys of which none stands twice
 evaluated-distinct : (ds : List Decl) (keys : List Key) (kept : Kept) → kept.keeps ≡ true

@@ -27,7 +27,8 @@ pub evaluated-all : (ds : List Decl) (old new : Kept) → new ≡ evaluated ds (
 evaluated-all ds old new is = grind (arith, old.keeps, old.knows, knows_wanted, all-pass, has-wanted, none-kept, unkept-answerable)
 
 -- so is what a declaration asks for
-wanted-answerable : (ds : List Decl) (kept : Kept) (d : Decl) → IsFound ds d → IsEvaluated ds kept → are_answerable kept (wanted_by d) ≡ true
+wanted-answerable : (ds : List Decl) (kept : Kept) (d : Decl) → IsFound ds d → IsEvaluated ds kept
+    → are_answerable kept (wanted_by d) ≡ true
 wanted-answerable ds kept d found all = subst (λ keys. are_answerable kept keys ≡ true) (append-nil (wanted_by d))
     (keys-known ds (d ∷ []) (found, tt) (is_answerable kept) all)
 
@@ -41,11 +42,14 @@ points-and-chains : (ds : List Decl) (kept : Kept) (d : Decl) → IsFound ds d �
 points-and-chains ds kept d found all = and_parts (are_answerable kept (asked_by d)) (are_answerable kept (chains_by d))
     (sym (list_all-append (is_answerable kept) (asked_by d) (chains_by d)) ∙ (all-but-events ds kept d found all).0)
 
-pub points-answerable : (ds : List Decl) (kept : Kept) (d : Decl) → IsFound ds d → IsEvaluated ds kept → are_answerable kept (asked_by d) ≡ true
+pub points-answerable : (ds : List Decl) (kept : Kept) (d : Decl) → IsFound ds d → IsEvaluated ds kept
+    → are_answerable kept (asked_by d) ≡ true
 points-answerable ds kept d found all = (points-and-chains ds kept d found all).0
 
-pub chains-answerable : (ds : List Decl) (kept : Kept) (d : Decl) → IsFound ds d → IsEvaluated ds kept → are_answerable kept (chains_by d) ≡ true
+pub chains-answerable : (ds : List Decl) (kept : Kept) (d : Decl) → IsFound ds d → IsEvaluated ds kept
+    → are_answerable kept (chains_by d) ≡ true
 chains-answerable ds kept d found all = (points-and-chains ds kept d found all).1
 
-pub events-answerable : (ds : List Decl) (kept : Kept) (d : Decl) → IsFound ds d → IsEvaluated ds kept → are_answerable kept (events_by d) ≡ true
+pub events-answerable : (ds : List Decl) (kept : Kept) (d : Decl) → IsFound ds d → IsEvaluated ds kept
+    → are_answerable kept (events_by d) ≡ true
 events-answerable ds kept d found all = (all-but-events ds kept d found all).1

@@ -10,13 +10,14 @@ use Rattle.cdi_observe.proofs.BeanPlaceLemmas.{has-each_place}
 use Rattle.cdi_observe.proofs.FoundLemmas.{all-lent, IsFound}
 
 ok-where : {X : Type 0} (has : Bool) (x : X) (refusal : Refusal) → has ≡ true → is_ok (cond has (Ok x) (Err refusal)) ≡ true
-ok-where t1 x refusal e = grind (arith, false≢true)
+ok-where has x refusal e = grind (arith, false≢true)
 
 module _ (ds : List Decl) where
   abbrev IsTold : Key → Type 0
   IsTold key = is_told ds key ≡ true
 
-  chains-told : (b : BeanDecl) → find_bean b.name ds ≡ Some b → (ps : List BeanPlace) → AllByRecursion (λ place. has_place b place ≡ true) ps
+  chains-told : (b : BeanDecl) → find_bean b.name ds ≡ Some b → (ps : List BeanPlace)
+      → AllByRecursion (λ place. has_place b place ≡ true) ps
       → AllByRecursion IsTold (map (ChainKey b.name) ps)
   chains-told b found [] all = tt
   chains-told b found (p ∷ ps) all = grind (arith, chains-told b found ps all.1, all.0, all.1, ok-where)

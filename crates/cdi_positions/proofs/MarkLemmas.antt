@@ -134,7 +134,8 @@ module _ (f : ℕ → List Bool) (k : ℕ) (long : (w : ℕ) → length (f w) �
       → count_below ((i + 1) * k) (flat_map f ws) ≡ count_below (i * k) (flat_map f ws) + marked_count (f (get_or ws i 0))
   count-whole ws i p =
       ap (λ n. count_below n (flat_map f ws)) (next i) ∙ count-row ws i k p (omega arith)
-      ∙ ap (λ ms. count_below (i * k) (flat_map f ws) + marked_count ms) (take_all k (f (get_or ws i 0)) (omega (arith, long (get_or ws i 0))))
+      ∙ ap (λ ms. count_below (i * k) (flat_map f ws) + marked_count ms)
+      (take_all k (f (get_or ws i 0)) (omega (arith, long (get_or ws i 0))))
     where
       next : (i : ℕ) → (i + 1) * k ≡ i * k + k
       next i = omega arith

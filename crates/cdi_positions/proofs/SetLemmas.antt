@@ -37,10 +37,12 @@ module _ (ws : List ℕ) (p : ℕ) (within : p / 64 < length ws) where
       (set-marks_in (get_or ws (p / 64) 0) (p % 64) low)
       ∙ ap (λ n. set (marks_of ws) n true) (sym (place p))
 
-  pub count-mark : marked_count (marks_of (take (p / 64) ws)) + count_below (p % 64) (marks_in (get_or ws (p / 64) 0)) ≡ count_below p (marks_of ws)
+  pub count-mark : marked_count (marks_of (take (p / 64) ws)) + count_below (p % 64) (marks_in (get_or ws (p / 64) 0))
+      ≡ count_below p (marks_of ws)
   count-mark =
       let rest : p % 64 ≤ 64 = omega arith in
-      ap (λ ms. marked_count ms + count_below (p % 64) (marks_in (get_or ws (p / 64) 0))) (sym (take-rows marks_in 64 length-marks_in ws (p / 64)))
+      ap (λ ms. marked_count ms + count_below (p % 64) (marks_in (get_or ws (p / 64) 0)))
+      (sym (take-rows marks_in 64 length-marks_in ws (p / 64)))
       ∙ sym (count-row marks_in 64 length-marks_in ws (p / 64) (p % 64) within rest)
       ∙ ap (λ n. count_below n (marks_of ws)) (sym (place p))
 
@@ -115,7 +117,8 @@ module _ (ws : List ℕ) (used : ℕ) (ends : EndsAt used ws) where
 same_marked : (m n : ℕ) (marks : List Bool) → m ≡ n → marked_from m marks ≡ marked_from n marks
 same_marked m n marks e = ap (λ k. marked_from k marks) e
 
-pub left-next : (ws : List ℕ) (i w : ℕ) → w ≡ 0 → i + 1 < length ws → positions_left ws (i + 1) (get_or ws (i + 1) 0) ≡ positions_left ws i w
+pub left-next : (ws : List ℕ) (i w : ℕ) → w ≡ 0 → i + 1 < length ws
+    → positions_left ws (i + 1) (get_or ws (i + 1) 0) ≡ positions_left ws i w
 left-next ws i w e p =
     sym (
     ap (positions_left ws i) e ∙ none-marks_in (i * 64) (marks_of (drop (i + 1) ws))

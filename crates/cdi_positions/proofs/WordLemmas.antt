@@ -77,7 +77,8 @@ set-marks_in n j p =
     ext_get_or false (marks_in m) (set (marks_in n) j true) (length-marks_in m ∙ sym (length-set (marks_in n) j true ∙ length-marks_in n))
     (λ i q. at i (omega (arith, q, length-marks_in m)) (eqb i j) refl)
   where
-    at : (i : ℕ) → i < 64 → (same : Bool) → eqb i j ≡ same → is_marked (marks_in (bit_or n (1 * 2 ^ j % 2 ^ 64))) i ≡ is_marked (set (marks_in n) j true) i
+    at : (i : ℕ) → i < 64 → (same : Bool) → eqb i j ≡ same
+        → is_marked (marks_in (bit_or n (1 * 2 ^ j % 2 ^ 64))) i ≡ is_marked (set (marks_in n) j true) i
     at i q true h =
         let m = bit_or n (1 * 2 ^ j % 2 ^ 64) in
         let e = eqb-true i j h in
@@ -210,7 +211,8 @@ clear-low (suc k) n p q = elim (parity n) [
       odd is.0 (ap (low_marks k) is.1)
   | inl even ↦
       let is = even-and n p even in
-      even-clear (n % 2) (count_trailing_zeros k (n / 2)) (bit_and n (n - 1) % 2) (low_marks k (n / 2)) (low_marks k (bit_and n (n - 1) / 2))
+      even-clear (n % 2) (count_trailing_zeros k (n / 2)) (bit_and n (n - 1) % 2) (low_marks k (n / 2))
+      (low_marks k (bit_and n (n - 1) / 2))
       even is.0 (ap (low_marks k) is.1 ∙ clear-low k (n / 2) (omega arith) (omega arith))
 ]
 

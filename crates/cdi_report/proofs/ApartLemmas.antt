@@ -79,7 +79,8 @@ module _ (edits : List Edit) (told : List DeclKey) where
   binding-spared _ none = tt
 
   bindings-spared : (ms : List Mention)
-      → ((b : List ℕ) → is_among told (key_at kinds.Binding b) ≡ true → words_have (flat_map words_named_in ms) (word_at reasons.Binds b) ≡ false)
+      → ((b : List ℕ) → is_among told (key_at kinds.Binding b) ≡ true
+      → words_have (flat_map words_named_in ms) (word_at reasons.Binds b) ≡ false)
       → AllByRecursion (IsBindingSpared told) ms
   bindings-spared [] none = tt
   bindings-spared (m ∷ ms) none = (
@@ -88,7 +89,8 @@ module _ (edits : List Edit) (told : List DeclKey) where
   )
 
   uses-spared : (us : List Qual)
-      → ((q : List ℕ) → is_among keys (key_at kinds.Qualifier q) ≡ true → words_have (words_of_uses us) (word_at reasons.Qualifies q) ≡ false)
+      → ((q : List ℕ) → is_among keys (key_at kinds.Qualifier q) ≡ true
+      → words_have (words_of_uses us) (word_at reasons.Qualifies q) ≡ false)
       → AllByRecursion (λ u. is_among keys (key_at kinds.Qualifier u.name) ≡ false) us
   uses-spared [] none = tt
   uses-spared (u ∷ us) none = (
@@ -96,11 +98,13 @@ module _ (edits : List Edit) (told : List DeclKey) where
       | inl among ↦ absurd (false≢true (sym (none u.name among) ∙ first-has (word_at reasons.Qualifies u.name) (words_of_uses us)))
       | inr apart ↦ apart
     ],
-    uses-spared us (λ q among. words-back (word_at reasons.Qualifies q) (word_at reasons.Qualifies u.name ∷ []) (words_of_uses us) (none q among)),
+    uses-spared us (λ q among. words-back (word_at reasons.Qualifies q) (word_at reasons.Qualifies u.name ∷ []) (words_of_uses us)
+        (none q among)),
   )
 
   record-spared : (b : Effective)
-      → ((q : List ℕ) → is_among keys (key_at kinds.Qualifier q) ≡ true → words_have (words_of_record b) (word_at reasons.Qualifies q) ≡ false)
+      → ((q : List ℕ) → is_among keys (key_at kinds.Qualifier q) ≡ true
+      → words_have (words_of_record b) (word_at reasons.Qualifies q) ≡ false)
       → AreQualifiersSpared keys b
   record-spared b none = uses-spared b.qualifiers (λ q among.
       let w = word_at reasons.Qualifies q in
@@ -124,7 +128,8 @@ module _ (edits : List Edit) (told : List DeclKey) where
 
   module _ (ds : List Decl) where
     -- the words of the records of a bean, and those of what it names
-    own-words : (w : Word) (d : BeanDecl) → words_have (words_of_bean ds d) w ≡ false → words_have (flat_map words_of_record (own_records ds d)) w ≡ false
+    own-words : (w : Word) (d : BeanDecl) → words_have (words_of_bean ds d) w ≡ false
+        → words_have (flat_map words_of_record (own_records ds d)) w ≡ false
     own-words w d none =
         let own = flat_map words_of_record (own_records ds d) in
         let observed = flat_map words_of_observer d.observers in

@@ -39,7 +39,8 @@ module _ {X : Type 0} (named : Mention → List X) (apart : AreApart named) wher
 
   named-append : (xs ys : List Mention) → flat_map named (xs ++ ys) ≡ flat_map named xs ++ flat_map named ys
   named-append [] ys = refl
-  named-append (x ∷ xs) ys = ap (λ l. named x ++ l) (named-append xs ys) ∙ sym (append_assoc (named x) (flat_map named xs) (flat_map named ys))
+  named-append (x ∷ xs) ys = ap (λ l. named x ++ l) (named-append xs ys)
+      ∙ sym (append_assoc (named x) (flat_map named xs) (flat_map named ys))
 
   none-of-both : (xs ys : List Mention) → flat_map named xs ≡ [] → flat_map named ys ≡ [] → flat_map named (xs ++ ys) ≡ []
   none-of-both xs ys none more = named-append xs ys ∙ ap (λ l. l ++ flat_map named ys) none ∙ more

@@ -51,7 +51,8 @@ module _ (edits : List Edit) (ds : List Decl) (told : List DeclKey) (tells : Tel
         by false own = ap (λ c. not false && is_intercepted ds c d) (own refl) ∙ ap (λ q. not false && q) intercepted-stays
             ∙ ap (λ c. not false && is_intercepted es c d) (class-stays edits ds told tells d found spared ∙ sym (own refl))
 
-    found-subclass : (test : Effective → Bool) → needs_subclass_as ds d (find test (records ds d)) ≡ needs_subclass_as es d (find test (records es d))
+    found-subclass : (test : Effective → Bool)
+        → needs_subclass_as ds d (find test (records ds d)) ≡ needs_subclass_as es d (find test (records es d))
     found-subclass test = by (find test (records ds d)) refl
         ∙ ap (λ bs. needs_subclass_as es d (find test bs)) (records-stay edits ds told tells d found spared)
       where

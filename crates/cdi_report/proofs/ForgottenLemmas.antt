@@ -67,4 +67,5 @@ settled-forgotten ds old new each anew are knows book settled = record {
 
     closed : closed_of old ds ≡ closed_of new ds
     closed = closed-same ds ds old new
-        (all-weaker (λ d. is_present ds (key_of d) ≡ true) (λ d. is_open old (key_of d) ≡ is_open new (key_of d)) ds open-same (each-present ds))
+        (all-weaker (λ d. is_present ds (key_of d) ≡ true) (λ d. is_open old (key_of d) ≡ is_open new (key_of d)) ds open-same
+        (each-present ds))

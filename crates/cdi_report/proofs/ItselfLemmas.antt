@@ -25,7 +25,8 @@ module _ (edits : List Edit) (ds : List Decl) where
   pub binding-circle : (b : List ℕ) → is_among keys (key_at kinds.Binding b) ≡ false → Avoid (binding_reads ds (brought ds b)) edits
       → brings_itself (edited_all ds edits) b ≡ brings_itself ds b
   unfolding brings_itself
-  binding-circle b own avoid = circle-kept kinds.Binding bindings_in refl keys ds (edited_all ds edits) b (edits_keep_others edits ds) avoids
+  binding-circle b own avoid = circle-kept kinds.Binding bindings_in refl keys ds (edited_all ds edits) b
+      (edits_keep_others edits ds) avoids
     where
       avoids : (u : List ℕ) → is_among keys (key_at kinds.Binding u) ≡ true → Chain (leads (brought_types ds)) b u → ⊥
       avoids u among (zero, is) =

@@ -82,7 +82,8 @@ module _ (old : State) (next : Staged) (new : State) (book : List Promised) (u :
         let stays = left_stay old ready.draft next new ready.keys d (left d found shut) (was d found shut).known in
         record {
           known = stays.known;
-          faultless = sym (same-faults old.decls new.decls book d (λ code. stays.faults code book) all_codes) ∙ (was d found shut).faultless;
+          faultless = sym (same-faults old.decls new.decls book d (λ code. stays.faults code book) all_codes)
+              ∙ (was d found shut).faultless;
         };
     apart = together-stay old.decls new.decls u before after same-closed all-alike still-named settled.apart;
   }

@@ -64,7 +64,8 @@ decls-marked ds test marks marked =
 
 filter-each : (test : Decl → Bool) (ds : List Decl) → ((d : Decl) → test d ≡ true) → filter test ds ≡ ds
 filter-each test [] each = refl
-filter-each test (d ∷ ds) each = ap (λ b. cond b (d ∷ filter test ds) (filter test ds)) (each d) ∙ ap (λ es. d ∷ es) (filter-each test ds each)
+filter-each test (d ∷ ds) each = ap (λ b. cond b (d ∷ filter test ds) (filter test ds)) (each d)
+    ∙ ap (λ es. d ∷ es) (filter-each test ds each)
 
 -- where a report looks at each declaration, these are all
 pub each-open : (u : Unsettled) (ds : List Decl) → u.is_each ≡ true → open_of u ds ≡ ds

@@ -29,7 +29,8 @@ found-filter p f (e ∷ ds) d found passes holds = grind (arith, found-filter p 
 
 -- ---- what is known
 
-pub all-still : (knows more : Key → Bool) (keys : List Key) → ((key : Key) → knows key ≡ true → more key ≡ true) → list_all knows keys ≡ true
+pub all-still : (knows more : Key → Bool) (keys : List Key) → ((key : Key) → knows key ≡ true → more key ≡ true)
+    → list_all knows keys ≡ true
     → list_all more keys ≡ true
 all-still knows more keys still all = all-pass more keys (λ key has. still key (each-passes knows keys key all has))
 
@@ -98,7 +99,8 @@ module _ (ds : List Decl) (knows : Key → Bool) (book : List Promised) (u : Uns
   -- and have all faults of declarations
   pub tells-all : AreDistinct ds → flat_map (faults_of ds book) (open_of u ds) ≡ flat_map (faults_of ds book) ds
   tells-all distinct = flat-filter (faults_of ds book) stands-open ds
-      (all-weaker (IsFound ds) (λ d. stands-open d ≡ false → faults_of ds book d ≡ []) ds (λ d found closed. (settled.each d found closed).faultless)
+      (all-weaker (IsFound ds) (λ d. stands-open d ≡ false → faults_of ds book d ≡ []) ds
+      (λ d found closed. (settled.each d found closed).faultless)
       (each-found ds distinct))
 
   -- those that have none are settled where all is known
@@ -125,7 +127,8 @@ module _ (ds : List Decl) (knows : Key → Bool) (book : List Promised) (u : Uns
   }
 
 -- the open ones are there
-pub open-found : {P : Type 0} (value : P → Decl) (ps : List P) (ds : List Decl) (u : Unsettled) → AreDistinct ds → map value ps ≡ open_of u ds
+pub open-found : {P : Type 0} (value : P → Decl) (ps : List P) (ds : List Decl) (u : Unsettled) → AreDistinct ds
+    → map value ps ≡ open_of u ds
     → All (λ p. IsFound ds (value p)) ps
 open-found value ps ds u distinct are = all-lent (IsFound ds) value ps (open_of u ds) are
     (all-filter (IsFound ds) (λ d. is_open u (key_of d)) ds (each-found ds distinct))

@@ -138,7 +138,8 @@ module _ (edits : List Edit) (ds : List Decl) (told : List DeclKey) (tells : Tel
     differ bindings place = differ-alike edits ds d class-avoid class-stays
         (λ at. own-uses at (own_at d at) (own-spared told d bindings at)) place
       where
-        own-uses : (at : BeanPlace) (o : Option (List Qual)) → IfSome o (AreSpared told) → IfSome o (λ us. Avoid (binding_reads ds us) edits)
+        own-uses : (at : BeanPlace) (o : Option (List Qual)) → IfSome o (AreSpared told)
+            → IfSome o (λ us. Avoid (binding_reads ds us) edits)
         own-uses at None all = tt
         own-uses at (Some us) all = uses-avoid us all
 
@@ -146,7 +147,8 @@ module _ (edits : List Edit) (ds : List Decl) (told : List DeclKey) (tells : Tel
 
     named-stays : (o : Option (List ℕ)) → Avoid (bean_keys o) edits → bean_named ds o ≡ bean_named es o
     named-stays None avoid = refl
-    named-stays (Some class) avoid = ap as_bean (sym (edits_keep_decl edits ds kinds.Bean class (avoid-head edits (key_at kinds.Bean class) [] avoid)))
+    named-stays (Some class) avoid = ap as_bean
+        (sym (edits_keep_decl edits ds kinds.Bean class (avoid-head edits (key_at kinds.Bean class) [] avoid)))
 
     specialized-stays : is_among keys (key_at kinds.Type d.name) ≡ false → specialized ds d ≡ specialized es d
     specialized-stays apart = by d.specializes next-avoid
@@ -175,7 +177,8 @@ module _ (edits : List Edit) (ds : List Decl) (told : List DeclKey) (tells : Tel
       → is_among keys (key_at kinds.Type d.name) ≡ false → IfSome (specialized ds d) (λ s. is_among told (key_at kinds.Bean s.name) ≡ false)
       → specialized_seen ds (decls.Bean d) ≡ specialized_seen es (decls.Bean d)
   seen-stays d found spared apart next =
-      by (specialized ds d) refl next ∙ ap (λ o. option_map types_and_name (option_map (managed es) o)) (specialized-stays d found spared apart)
+      by (specialized ds d) refl next ∙ ap (λ o. option_map types_and_name (option_map (managed es) o))
+      (specialized-stays d found spared apart)
     where
       by : (o : Option BeanDecl) → specialized ds d ≡ o → IfSome o (λ s. is_among told (key_at kinds.Bean s.name) ≡ false)
           → option_map types_and_name (option_map (managed ds) o) ≡ option_map types_and_name (option_map (managed es) o)
@@ -187,7 +190,8 @@ module _ (edits : List Edit) (ds : List Decl) (told : List DeclKey) (tells : Tel
   type-stays : (t : List ℕ) (d : Decl) → find_decl kinds.Type t ds ≡ Some d → is_among told (key_at kinds.Type t) ≡ false
       → extends_itself ds t ≡ extends_itself es t
   type-stays t d found spared = sym (type-circle edits ds t (λ key among.
-      sym (ap (λ o. is_among (reads_in (option_map (λ d. made_of_type ds t) o)) key) found) ∙ avoids (key_at kinds.Type t) spared key among))
+      sym (ap (λ o. is_among (reads_in (option_map (λ d. made_of_type ds t) o)) key) found)
+      ∙ avoids (key_at kinds.Type t) spared key among))
 
   binding-stays : (b : List ℕ) (d : BindingDecl) → find_decl kinds.Binding b ds ≡ Some (decls.Binding d)
       → is_among told (key_at kinds.Binding b) ≡ false → brings_itself ds b ≡ brings_itself es b

@@ -55,7 +55,8 @@ told-of : (ds : List Decl) (class : List ℕ) (place : BeanPlace) (b : BeanDecl)
 told-of ds class place b there found has = grind arith
 
 -- around a place that is not touched, of one declaration
-same-chain : (ds es : List Decl) (class : List ℕ) (place : BeanPlace) (b : BeanDecl) → find_bean class ds ≡ Some b → find_bean class es ≡ Some b
+same-chain : (ds es : List Decl) (class : List ℕ) (place : BeanPlace) (b : BeanDecl) → find_bean class ds ≡ Some b
+    → find_bean class es ≡ Some b
     → has_place b place ≡ true → not (is_touched ds es (ChainKey class place)) ≡ true → chain_of es class place ≡ chain_of ds class place
 same-chain ds es class place b before after there h = grind (arith, told-of, told_rests_on_seen, touched_where_seen_differs)
 
@@ -69,7 +70,8 @@ same-chains-of ds es class place same apart = grind (arith, same-chain, told-of)
 asks-own : (b : BeanDecl) (place : BeanPlace) → has_place b place ≡ true → has_key (wanted_by (decls.Bean b)) (ChainKey b.name place) ≡ true
 asks-own b place there = only-chains b.name place (decls.Bean b) ∙ among (places_of b) (has-it b place ∙ there)
   where
-    among : (ps : List BeanPlace) → list_any (same_place place) ps ≡ true → has_key (map (ChainKey b.name) ps) (ChainKey b.name place) ≡ true
+    among : (ps : List BeanPlace) → list_any (same_place place) ps ≡ true
+        → has_key (map (ChainKey b.name) ps) (ChainKey b.name place) ≡ true
     among [] some = absurd (false≢true some)
     among (p ∷ ps) some = elim (or_cases (same_place place p) (list_any (same_place place) ps) some) [
       | inl here ↦ or_left (bytes_eq b.name b.name && same_place place p) (has_key (map (ChainKey b.name) ps) (ChainKey b.name place))
@@ -211,7 +213,8 @@ module _ (edits : List Edit) (ds : List Decl) (m : Moved) (d : Decl) (knows : Ke
         → AllByRecursion (AreChainsKnown ds knows) ps → AllByRecursion (AreChainsKnown es now) ps
     chains-known [] listed same known = tt
     chains-known (p ∷ ps) listed same known = (
-      λ id one place wanted. after (ChainKey id.class place) ∙ chain-known p listed.0 id (same.0 ∙ one) (known.0 id (same.0 ∙ one)) place wanted,
+      λ id one place wanted. after (ChainKey id.class place)
+          ∙ chain-known p listed.0 id (same.0 ∙ one) (known.0 id (same.0 ∙ one)) place wanted,
       chains-known ps listed.1 same.1 known.1,
     )
 

@@ -59,21 +59,24 @@ passed-all p f (x ∷ xs) all = grind (arith, passed-all p f xs, false≢true)
 
 module _ (ds : List Decl) (u : Unsettled) where
   pub whole-names : HaveNoClash ds (closed_of u ds) → list_all (is_nameless ds) (open_of u ds) ≡ true → HaveNoClash ds ds
-  whole-names apart all = clash_whole ds ds (λ d. not (is_open u (key_of d))) (passed-all (λ d. is_open u (key_of d)) (is_nameless ds) ds all) apart
+  whole-names apart all = clash_whole ds ds (λ d. not (is_open u (key_of d)))
+      (passed-all (λ d. is_open u (key_of d)) (is_nameless ds) ds all) apart
 
   pub whole-circles : AreDistinct ds → AreNamed ds → HaveNoCircle ds (closed_of u ds) → list_all (is_needless ds) (open_of u ds) ≡ true
       → HaveNoCircle ds ds
   whole-circles distinct named apart all =
-      circle_whole ds (λ d. not (is_open u (key_of d))) distinct named (passed-all (λ d. is_open u (key_of d)) (is_needless ds) ds all) apart
+      circle_whole ds (λ d. not (is_open u (key_of d))) distinct named
+      (passed-all (λ d. is_open u (key_of d)) (is_needless ds) ds all) apart
 
   pub whole-chains : HaveNoneTwice ds (closed_of u ds) → list_all (is_chainless ds) (open_of u ds) ≡ true → HaveNoneTwice ds ds
-  whole-chains apart all = twice_whole ds ds (λ d. not (is_open u (key_of d))) (passed-all (λ d. is_open u (key_of d)) (is_chainless ds) ds all) apart
+  whole-chains apart all = twice_whole ds ds (λ d. not (is_open u (key_of d)))
+      (passed-all (λ d. is_open u (key_of d)) (is_chainless ds) ds all) apart
 
 -- ---- what is told of all
 
 -- those that are passed over are none
 all-passed-over : {A : Type 0} (looks : Bool) (more : List A) → (looks ≡ false → more ≡ []) → cond looks more [] ≡ more
-all-passed-over t1 more none = grind arith
+all-passed-over looks more none = grind arith
 
 -- where a report does not look at all for faults there are none
 pub together-told : (ds : List Decl) (looked : Together) → AreDistinct ds → HaveNoneTogether ds ds looked
@@ -103,7 +106,7 @@ none-anew ds looked found apart anew = record {
 module _ (less more : Unsettled) (looks : LooksAtMore less more) where
   -- where it looks at no more, it looked at no less
   known-before : (a b : Bool) → (a ≡ true → b ≡ true) → b ≡ false → a ≡ false
-  known-before t1 b still e = grind (arith, false≢true)
+  known-before a b still e = grind (arith, false≢true)
 
   shut-before : (k : DeclKey) → is_open more k ≡ false → is_open less k ≡ false
   shut-before k = known-before (is_open less k) (is_open more k) (looks.at k)

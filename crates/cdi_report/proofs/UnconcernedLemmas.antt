@@ -34,7 +34,8 @@ pub none-back : {A : Type 0} (p : A → Bool) (xs ys : List A) → list_any p (x
 none-back p xs ys none = (or_parts (list_any p xs) (list_any p ys) (sym (list_any-append p xs ys) ∙ none)).1
 
 -- a test fails for the word of each of some names
-pub none-named : (test : Word → Bool) (reason : Reason) (names : List (List ℕ)) (n : List ℕ) → list_any test (map (word_at reason) names) ≡ false
+pub none-named : (test : Word → Bool) (reason : Reason) (names : List (List ℕ)) (n : List ℕ)
+    → list_any test (map (word_at reason) names) ≡ false
     → has names n ≡ true → test (word_at reason n) ≡ false
 none-named test reason [] n none among = absurd (false≢true among)
 none-named test reason (x ∷ names) n none among =
@@ -49,7 +50,8 @@ none-named test reason (x ∷ names) n none among =
 own-kind : (kind : Kind) (n : List ℕ) → is_of_kind kind (key_at kind n) ≡ true
 own-kind kind n = same_key_equiv.refl (key_at kind n)
 
-pub named-among : (kind : Kind) (keys : List DeclKey) (n : List ℕ) → is_among keys (key_at kind n) ≡ true → has (names_of_kind kind keys) n ≡ true
+pub named-among : (kind : Kind) (keys : List DeclKey) (n : List ℕ) → is_among keys (key_at kind n) ≡ true
+    → has (names_of_kind kind keys) n ≡ true
 named-among kind [] n among = absurd (false≢true among)
 named-among kind (k ∷ keys) n among = grind (arith, named-among kind keys n, k.name, same_text, key_exact, false≢true, own-kind)
 
@@ -103,7 +105,8 @@ class-offers ds (c ∷ classes) class t among some = list_any-append (λ n. byte
 -- ---- all
 
 module _ (edits : List Edit) (ds : List Decl) (m : Moved) (d : Decl) (distinct : AreDistinct ds)
-    (found : find_decl (kind_of d) (name_of_decl d) ds ≡ Some d) (same : m.edited.now ≡ edited_keys edits) (it : IsUnconcerned ds edits m d) where
+    (found : find_decl (kind_of d) (name_of_decl d) ds ≡ Some d) (same : m.edited.now ≡ edited_keys edits)
+    (it : IsUnconcerned ds edits m d) where
   abbrev key : DeclKey
   key = key_of d
 
@@ -277,10 +280,12 @@ module _ (edits : List Edit) (ds : List Decl) (m : Moved) (d : Decl) (distinct :
   still-named : (ms : List Mention) → ((w : Word) → words_have (flat_map words_named_in ms) w ≡ true → had w ≡ true)
       → AllByRecursion Chains (flat_map point_named ms) → AllByRecursion Still (flat_map point_named ms)
   still-named [] asks chains = tt
-  still-named (x ∷ ms) asks chains = by x (λ w h. asks w (list_any-append (λ v. same_word v w) (words_named_in x) (flat_map words_named_in ms) ∙ h))
+  still-named (x ∷ ms) asks chains = by x (λ w h. asks w
+      (list_any-append (λ v. same_word v w) (words_named_in x) (flat_map words_named_in ms) ∙ h))
       chains (still-named ms)
     where
-      by : (x : Mention) → ((w : Word) → (words_have (words_named_in x) w || words_have (flat_map words_named_in ms) w) ≡ true → had w ≡ true)
+      by : (x : Mention) → ((w : Word) → (words_have (words_named_in x) w || words_have (flat_map words_named_in ms) w) ≡ true
+          → had w ≡ true)
           → AllByRecursion Chains (point_named x ++ flat_map point_named ms)
           → (((w : Word) → words_have (flat_map words_named_in ms) w ≡ true → had w ≡ true)
           → AllByRecursion Chains (flat_map point_named ms) → AllByRecursion Still (flat_map point_named ms))
@@ -314,11 +319,13 @@ named-in-bean : (ds : List Decl) (b : BeanDecl) (w : Word) → words_have (words
 named-in-bean ds b w h = grind (arith, b.observers, list_any-append)
 
 -- the points of a declaration ask for no type of an affected bean
-chosen-still : (edits : List Edit) (ds : List Decl) (m : Moved) (d : Decl) → AreDistinct ds → find_decl (kind_of d) (name_of_decl d) ds ≡ Some d
+chosen-still : (edits : List Edit) (ds : List Decl) (m : Moved) (d : Decl) → AreDistinct ds
+    → find_decl (kind_of d) (name_of_decl d) ds ≡ Some d
     → m.edited.now ≡ edited_keys edits → IsUnconcerned ds edits m d
     → AllByRecursion (λ p. (id : BeanId) → answer_to ds p ≡ One id → IsStill ds edits m.affected.now id.class) (points_of d)
 unfolding mentions
-chosen-still edits ds m (decls.Bean b) distinct found same it = named-had edits ds m (decls.Bean b) distinct found same it (named-in-bean ds b) it.chains
+chosen-still edits ds m (decls.Bean b) distinct found same it = named-had edits ds m (decls.Bean b) distinct found same it
+    (named-in-bean ds b) it.chains
 chosen-still edits ds m (decls.Interceptor i) distinct found same it =
     named-had edits ds m (decls.Interceptor i) distinct found same it (λ w h. h) it.chains
 chosen-still edits ds m (decls.Type t) distinct found same it = pointless edits ds m (decls.Type t) distinct found same it
@@ -328,10 +335,12 @@ chosen-still edits ds m (decls.Qualifier q) distinct found same it = tt
 chosen-still edits ds m (decls.Binding b) distinct found same it =
     pointless edits ds m (decls.Binding b) distinct found same it (no-use uses.Binding b.declares)
 chosen-still edits ds m (decls.Stereotype s) distinct found same it = pointless edits ds m (decls.Stereotype s) distinct found same it
-    (neither (map StereotypeOf s.stereotypes) (map (UseOf uses.Binding) s.bindings) (no-stereotype s.stereotypes) (no-use uses.Binding s.bindings))
+    (neither (map StereotypeOf s.stereotypes) (map (UseOf uses.Binding) s.bindings) (no-stereotype s.stereotypes)
+    (no-use uses.Binding s.bindings))
 
 -- a declaration writes no edited name
-names-apart : (edits : List Edit) (ds : List Decl) (m : Moved) (d : Decl) → AreDistinct ds → find_decl (kind_of d) (name_of_decl d) ds ≡ Some d
+names-apart : (edits : List Edit) (ds : List Decl) (m : Moved) (d : Decl) → AreDistinct ds
+    → find_decl (kind_of d) (name_of_decl d) ds ≡ Some d
     → m.edited.now ≡ edited_keys edits → Tells ds (edited_all ds edits) (edited_keys edits) m.affected.now → IsUnconcerned ds edits m d
     → AllByRecursion (λ x. IsNotEdited (edited_keys edits) (named_in x)) (mentions d)
 unfolding mentions

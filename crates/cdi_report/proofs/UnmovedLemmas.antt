@@ -12,7 +12,8 @@ use Rattle.cdi_report.proofs.UnconcernedLemmas.{class-offers, found-among, named
 -- ---- names
 
 -- a class is among some, so its key is among theirs
-classed : (classes : List (List ℕ)) (class : List ℕ) → has classes class ≡ true → is_among (keys_of_classes classes) (key_at kinds.Bean class) ≡ true
+classed : (classes : List (List ℕ)) (class : List ℕ) → has classes class ≡ true
+    → is_among (keys_of_classes classes) (key_at kinds.Bean class) ≡ true
 classed [] class among = absurd (false≢true among)
 classed (c ∷ classes) class among =
     let key = key_at kinds.Bean class in

@@ -96,7 +96,8 @@ module _ (edits : List Edit) (ds : List Decl) (told : List DeclKey) (tells : Tel
     | inr apart ↦ apart
   ]
 
-  pub supers-apart : (t : TypeDecl) → find_decl kinds.Type t.name ds ≡ Some (decls.Type t) → is_among told (key_at kinds.Type t.name) ≡ false
+  pub supers-apart : (t : TypeDecl) → find_decl kinds.Type t.name ds ≡ Some (decls.Type t)
+      → is_among told (key_at kinds.Type t.name) ≡ false
       → AllByRecursion (IsWrittenApart keys) (mentions (decls.Type t))
   unfolding mentions
   supers-apart t found spared =

@@ -54,5 +54,6 @@ pub record IsReadied (old : State) (next : Staged) (u : Unsettled) : Type 0 wher
 
 -- Once it is taken over, all others are settled that were.
 abbrev pub SettledStay : Type 0
-SettledStay = (old : State) (next : Staged) (new : State) (book : List Promised) (u : Unsettled) → AreDistinct old.decls → AreDistinct new.decls
+SettledStay = (old : State) (next : Staged) (new : State) (book : List Promised) (u : Unsettled) → AreDistinct old.decls
+    → AreDistinct new.decls
     → IsReadied old next u → TakesOver old next new → AreSettled old.decls (knows old) book u → AreSettled new.decls (knows new) book u

@@ -99,7 +99,8 @@ pub printed_part : (setting : Setting) (start now then : Option (List ℕ)) (r :
     → WrotePart setting start then cs r.container
 printed_part setting start now then r cs part rest p is a = grind (arith, p.history, p.is_history, p.sent, p.text, p.written, append_assoc)
 
-pub wrote_part_but_more : (setting : Setting) (start now : Option (List ℕ)) (first all more : List Command) (left : State) → AreFirst all more
+pub wrote_part_but_more : (setting : Setting) (start now : Option (List ℕ)) (first all more : List Command) (left : State)
+    → AreFirst all more
     → WrotePartBut setting start now first all left → WrotePartBut setting start now first more left
 wrote_part_but_more setting start now first all more left m h = record {
   state = h.state;

@@ -64,7 +64,7 @@ left_after first all state left later (inr step) = inl step
 
 -- behind a flush, and behind no error, a note stays as it is
 behind_flush : (noted flushed failed : Bool) → flushed ≡ true → failed ≡ false → (noted && flushed && not failed) ≡ noted
-behind_flush noted u2 failed is still = grind (arith, true≢false, false≢true)
+behind_flush noted flushed failed is still = grind (arith, true≢false, false≢true)
 
 module _ {R W : Type 0} (remaining : R → Option (List ℕ)) (contents : W → Option (List ℕ)) (limit piece : ℕ)
     (setting : Setting) (r0 : Counted R) (w0 : Counted W) where

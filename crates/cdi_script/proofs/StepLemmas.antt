@@ -7,7 +7,8 @@ use Rattle.cdi_script.proofs.Open.{serves_serving_taken, serves_taken, serves_un
 use Rattle.cdi_script.proofs.{Serving.serves_itself, Taking.ended_from-no_feed, Taking.begun_from-no_feed}
 use Rattle.cdi_script.specs.{Left.left_by, Left.left_by_all, Reads.left_commands, Reads.Reads}
 
-pub left-append : (ds : List Decl) (before after : List Command) → left_by_all ds (before ++ after) ≡ left_by_all (left_by_all ds before) after
+pub left-append : (ds : List Decl) (before after : List Command)
+    → left_by_all ds (before ++ after) ≡ left_by_all (left_by_all ds before) after
 left-append ds [] after = refl
 left-append ds (c ∷ before) after = left-append (left_by ds c) before after
 
@@ -27,7 +28,8 @@ first_line line after h = ap (λ ls. ls ++ last_line (begun_from [] (line ++ fee
     ∙ ap (λ l. line ∷ (ended_from [] after ++ last_line l)) (begun-first [] line after h)
 
 only_line : (line : List ℕ) → NoFeed line → lines line ≡ last_line line
-only_line line h = ap (λ ls. ls ++ last_line (begun_from [] line)) (ended_from-no_feed [] line h) ∙ ap last_line (begun_from-no_feed [] line h)
+only_line line h = ap (λ ls. ls ++ last_line (begun_from [] line)) (ended_from-no_feed [] line h)
+    ∙ ap last_line (begun_from-no_feed [] line h)
 
 last_is : (line : List ℕ) → (line ≡ [] → ⊥) → last_line line ≡ line ∷ []
 last_is [] some = absurd (some refl)

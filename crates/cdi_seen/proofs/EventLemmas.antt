@@ -101,7 +101,7 @@ keep-found : (edits : List Edit) (ds : List Decl) (types : List (List ℕ)) (b :
     → Avoid (method_reads b.observers) edits
     → map (ranked_observer (edited_all ds edits)) (filter (observes types) (declared_by (cond enabled (Some b) None)))
     ≡ map (ranked_observer ds) (filter (observes types) (declared_by (cond enabled (Some b) None)))
-keep-found edits ds types b t1 avoid = grind (arith, b.observers, keep-methods)
+keep-found edits ds types b enabled avoid = grind (arith, b.observers, keep-methods)
 
 pub keep_observers : (edits : List Edit) (ds : List Decl) (is_affected : Decl → Bool) (tells : TellsAffected ds edits is_affected)
     (types : List (List ℕ)) (d : Decl) → IsPresent ds d → is_affected d ≡ false
@@ -140,7 +140,7 @@ none-observed types b (m ∷ ms) h =
 none-declared : (types : List (List ℕ)) (b : BeanDecl) (enabled : Bool)
     → ((x : List ℕ) → has (map (λ o. o.event_type) b.observers) x ≡ true → has types x ≡ false)
     → filter (observes types) (declared_by (cond enabled (Some b) None)) ≡ []
-none-declared types b t1 none = grind (arith, b.observers, none-observed)
+none-declared types b enabled none = grind (arith, b.observers, none-observed)
 
 pub event_by_words : (types : List (List ℕ)) (ds : List Decl) (d : Decl) → IsPresent ds d
     → ((x : List ℕ) → has (names_under ds d Observes) x ≡ true → has types x ≡ false) → observer_given types ds d ≡ []

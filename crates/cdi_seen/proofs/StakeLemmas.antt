@@ -30,7 +30,7 @@ others_stay_wanted edits ds d key here apart asks = grind (arith, found_any, edi
 -- ---- finer
 
 or-same : (b c : Bool) → (b ≡ false → c ≡ true) → (not b || c) ≡ c
-or-same t1 c h = grind arith
+or-same b c h = grind arith
 
 pub suspects_decide_known : SuspectsDecideKnown
 unfolding is_wanted

@@ -6,8 +6,6 @@ mod escaped;
 mod names;
 mod read;
 mod source;
-#[cfg(test)]
-mod tests;
 
 pub use disk::{Disk, Sort};
 pub use escaped::Escaped;

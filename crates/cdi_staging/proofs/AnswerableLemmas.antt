@@ -60,7 +60,8 @@ pub record AsksOfBean (kept : Kept) (bean : BeanDecl) : Type 0 where
   pub products : (p : ProducerDecl) → Contains bean.producers p → AreAsked kept p.params
   pub observers : (o : ObserverDecl) → Contains bean.observers o → AreAsked kept o.params
 
-pub bean-asked : (ds : List Decl) (kept : Kept) (bean : BeanDecl) → IsFound ds (decls.Bean bean) → IsEvaluated ds kept → AsksOfBean kept bean
+pub bean-asked : (ds : List Decl) (kept : Kept) (bean : BeanDecl) → IsFound ds (decls.Bean bean) → IsEvaluated ds kept
+    → AsksOfBean kept bean
 bean-asked ds kept bean found evaluated =
     let params = params_of bean.producers in
     let second = both (asks kept) (bean.points ++ params) (observed bean.observers)
@@ -130,7 +131,8 @@ pub record FiresOfBean (kept : Kept) (bean : BeanDecl) : Type 0 where
   pub products : (p : ProducerDecl) → Contains bean.producers p → IsFireable kept p.part
   pub observers : (o : ObserverDecl) → Contains bean.observers o → IsFireable kept o.part
 
-pub bean-fired : (ds : List Decl) (kept : Kept) (bean : BeanDecl) → IsFound ds (decls.Bean bean) → IsEvaluated ds kept → FiresOfBean kept bean
+pub bean-fired : (ds : List Decl) (kept : Kept) (bean : BeanDecl) → IsFound ds (decls.Bean bean) → IsEvaluated ds kept
+    → FiresOfBean kept bean
 unfolding mentions
 bean-fired ds kept bean found evaluated =
     let test = fires kept in
@@ -155,7 +157,8 @@ bean-fired ds kept bean found evaluated =
       post = parts-fired kept parts_are.Post bean.post begins.1;
       pre = parts-fired kept parts_are.Pre bean.pre callbacks.1;
       methods = λ m at. part-fired kept (parts_are.Method m.name) [] m.part
-          (both test (of_bindings m.bindings) (of_part (parts_are.Method m.name) [] m.part) (each test of_method bean.methods m second.1 at)).1;
+          (both test (of_bindings m.bindings) (of_part (parts_are.Method m.name) [] m.part)
+          (each test of_method bean.methods m second.1 at)).1;
       products = λ p at. part-fired kept (part_place_of p) p.params p.part
           (both test (of_attributes p.attributes ++ of_bindings p.bindings ++ flat_map (of_point (points_are.Producer p.name)) p.params)
           (of_part (part_place_of p) p.params p.part) (each test of_producer bean.producers p third.1 at)).1;

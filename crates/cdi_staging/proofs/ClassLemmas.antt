@@ -153,7 +153,8 @@ has-method bean m (k, within, at) =
 
 pub has-observer : (bean : BeanDecl) (m : ObserverDecl) → Contains bean.observers m → has_place bean (spots.Observer m.name) ≡ true
 has-observer bean m (k, within, at) =
-    let one = found (λ (n : ObserverDecl). bytes_eq n.name m.name) bean.observers k m (slice_get-get_or bean.observers k m within ∙ ap Some at)
+    let one = found (λ (n : ObserverDecl). bytes_eq n.name m.name) bean.observers k m
+    (slice_get-get_or bean.observers k m within ∙ ap Some at)
     (same_text m.name m.name refl) in
     ap (λ o. is_some (option_map (λ (n : ObserverDecl). n.bindings) o)) one.find_is
 

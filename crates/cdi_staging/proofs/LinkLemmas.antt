@@ -110,7 +110,7 @@ injection-of actor n (t ∷ ts) (suc k) x e = grind (arith, injection-of actor (
 
 from-block : (n : ℕ) (b : Around) (around : List Around) (c : Bool) (k : ℕ) (x : Injection)
     → slice_get (cond c (injections_from (By n) 0 b.1) []) k ≡ Some x → OfAround n (b ∷ around) x
-from-block n b around t1 k x e = grind (arith, b.1, injection-of, none-some)
+from-block n b around c k x e = grind (arith, b.1, injection-of, none-some)
 
 pub from-around : (test : InterceptorDecl → Bool) (n : ℕ) (around : List Around) (k : ℕ) (x : Injection)
     → slice_get (injections_around test n around) k ≡ Some x → OfAround n around x
@@ -147,7 +147,7 @@ pub apart-from : (actor : Actor) (n : ℕ) (ts : List Target) → AreApart (inje
 apart-from actor n ts j k x y e f same point = grind (arith, injection-of)
 
 apart-block : (n : ℕ) (ts : List Target) (c : Bool) → AreApart (cond c (injections_from (By n) 0 ts) [])
-apart-block n ts t1 = grind (arith, apart-from, none-some)
+apart-block n ts c = grind (arith, apart-from, none-some)
 
 number_of : Actor → ℕ
 number_of (By q) = q
@@ -155,7 +155,7 @@ number_of ByTarget = 0
 
 block-actor : (n : ℕ) (ts : List Target) (c : Bool) (k : ℕ) (x : Injection) → slice_get (cond c (injections_from (By n) 0 ts) []) k ≡ Some x
     → x.actor ≡ By n
-block-actor n ts t1 k x e = grind (arith, injection-of, none-some)
+block-actor n ts c k x e = grind (arith, injection-of, none-some)
 
 pub apart-around : (test : InterceptorDecl → Bool) (n : ℕ) (around : List Around) → AreApart (injections_around test n around)
 unfolding number_of

@@ -377,7 +377,7 @@ is-produced : (ds : List Decl) (book : List Promised) (q : ℕ) (d : BeanDecl) (
     ≡ Some (cond e (product_form ds book d p)
     (unused_product ds d))
     → e ≡ true → IsProduced ds book q d p
-is-produced ds book q d p k j t1 there declared enabled at is = grind (arith, false≢true)
+is-produced ds book q d p k j e there declared enabled at is = grind (arith, false≢true)
 
 pub producer-good : (ds : List Decl) (book : List Promised) (q : ℕ) (Leads : CallSite → Type 0) (Links : ℕ → Type 0) (x : Invocable)
     (o : Option Bean) → AreDistinct ds → AreFine ds book

@@ -86,7 +86,8 @@ module _ {P : PointDecl → Type 0} {others : List PointDecl} where
 
   attributes-listed : (a : Attributes) → Lists P others [] (of_attributes a)
   attributes-listed a =
-      both-listed (both-listed (plain-listed (TypeIn types_are.Listed) (λ t. (refl, refl)) (listed_types a)) (qualifiers-listed a.qualifiers))
+      both-listed (both-listed (plain-listed (TypeIn types_are.Listed) (λ t. (refl, refl)) (listed_types a))
+      (qualifiers-listed a.qualifiers))
       (plain-listed StereotypeOf (λ s. (refl, refl)) a.stereotypes)
 
   point-listed : (place : PointPlace) (p : PointDecl) → Lists P others (p ∷ []) (of_point place p)
@@ -162,7 +163,8 @@ module _ {P : PointDecl → Type 0} where
       both-listed (plain-listed StereotypeOf (λ s. (refl, refl)) d.stereotypes) (bindings-listed d.bindings)
   declared-listed (decls.Bean d) = bean-listed d
   declared-listed (decls.Interceptor d) =
-      let around = both-listed (part-listed parts_are.AroundInvoke d.around_invoke) (part-listed parts_are.AroundConstruct d.around_construct) in
+      let around = both-listed (part-listed parts_are.AroundInvoke d.around_invoke)
+      (part-listed parts_are.AroundConstruct d.around_construct) in
       front-listed (both-listed (bindings-listed d.bindings) (points-listed points_are.Constructor d.points))
       (both-listed (both-listed around (part-listed parts_are.Post d.post)) (part-listed parts_are.Pre d.pre))
 

@@ -1,5 +1,5 @@
 //! Tests of calls below the container that no script makes: verdicts on beans, the places of refused texts, ways along edges,
-//! the faults of a plain view, and the program's bodies by their table.
+//! the faults of a plain view, the program's bodies by their table, and what files are read.
 #![tactic(auto)]
 
 #[cfg(test)]
@@ -10,6 +10,8 @@ mod explained;
 mod faulty;
 #[cfg(test)]
 mod refused_texts;
+#[cfg(test)]
+mod sources;
 #[cfg(test)]
 mod stock;
 #[cfg(test)]

@@ -18,7 +18,8 @@ use Rattle.cdi_text.specs.Lists.{list_repeats}
 
 -- ---- tables inside a sound table
 
-module _ {A : Type 0} (f : Members → A) (p : A → Bool) (inner : Schema) (good : (ms : Members) → is_sound inner ms ≡ true → p (f ms) ≡ false) where
+module _ {A : Type 0} (f : Members → A) (p : A → Bool) (inner : Schema)
+    (good : (ms : Members) → is_sound inner ms ≡ true → p (f ms) ≡ false) where
   none-each : (ds : Items) → are_sound inner ds ≡ true → HasNone p (each f ds)
   none-each no_items sound = refl
   none-each (item (table ms) ds) sound =
@@ -76,7 +77,8 @@ none-events (item _ ds) spelt = none-events ds spelt
 none-events_at : (schema : Schema) (ms : Members) → is_sound schema ms ≡ true → shape_of schema (codes "fires") ≡ Some (Many Event)
     → HasNone (λ e. list_any is_malformed (of_event e)) (events_at (codes "fires") ms)
 none-events_at schema ms sound shape =
-    by (option_and_then as_array (get_member (codes "fires") ms)) (λ ds e. rw shape at (list_at BadName schema (codes "fires") ds ms sound e).0)
+    by (option_and_then as_array (get_member (codes "fires") ms))
+    (λ ds e. rw shape at (list_at BadName schema (codes "fires") ds ms sound e).0)
   where
     by : (o : Option Items) → ((ds : Items) → o ≡ Some ds → misspell Event ds ≡ false)
         → HasNone (λ e. list_any is_malformed (of_event e)) (events_in (unwrap_or o no_items))

@@ -149,7 +149,8 @@ bean-good ms sound =
     let producers = flat_map of_producer d.producers in
     let disposers = flat_map of_disposer d.disposers in
     let observers = flat_map of_observer d.observers in
-    let each-method = none-each_at method_decl (λ m. list_any is_malformed (of_method m)) schemas.Method method-good schemas.Bean (codes "methods") ms
+    let each-method = none-each_at method_decl (λ m. list_any is_malformed (of_method m)) schemas.Method method-good schemas.Bean
+    (codes "methods") ms
     sound refl in
     let each-producer = none-each_at producer_decl (λ p. list_any is_malformed (of_producer p)) schemas.Producer producer-good schemas.Bean
     (codes "producers") ms sound refl in
@@ -201,7 +202,8 @@ some-text (Some s) h = refl
 
 name-there : (schema : Schema) (ms : Members) → is_sound schema ms ≡ true → holds_name (shape_of schema (codes "name")) ≡ true
     → is_required (rows schema) (codes "name") ≡ true → text_at (codes "name") ms ≡ Some (the_text_at (codes "name") ms)
-name-there schema ms sound shape required = some-text (text_at (codes "name") ms) (required_at schema (codes "name") ms sound shape required)
+name-there schema ms sound shape required = some-text (text_at (codes "name") ms)
+    (required_at schema (codes "name") ms sound shape required)
 
 ident-there : (schema : Schema) (ms : Members) → is_sound schema ms ≡ true → holds_ident (shape_of schema (codes "name")) ≡ true
     → is_required (rows schema) (codes "name") ≡ true → text_at (codes "name") ms ≡ Some (the_text_at (codes "name") ms)
@@ -209,15 +211,18 @@ ident-there schema ms sound shape required =
     some-text (text_at (codes "name") ms) (required_ident_at schema (codes "name") ms sound shape required)
 
 -- what is built in is not declared
-declared-other : (kind : Kind) (ms : Members) → is_sound (schema_of kind) ms ≡ true → is_built_in kind (the_text_at (codes "name") ms) ≡ false
+declared-other : (kind : Kind) (ms : Members) → is_sound (schema_of kind) ms ≡ true
+    → is_built_in kind (the_text_at (codes "name") ms) ≡ false
 declared-other kind ms sound = by kind sound
   where
-    of_schema : (schema : Schema) (kind : Kind) → shape_of schema (codes "name") ≡ Some (One (Declared kind)) → is_required (rows schema) (codes "name") ≡ true
+    of_schema : (schema : Schema) (kind : Kind) → shape_of schema (codes "name") ≡ Some (One (Declared kind))
+        → is_required (rows schema) (codes "name") ≡ true
         → is_sound schema ms ≡ true → is_built_in kind (the_text_at (codes "name") ms) ≡ false
     of_schema schema kind shape required sound =
         let name = the_text_at (codes "name") ms in
         let there : text_at (codes "name") ms ≡ Some name = name-there schema ms sound (ap holds_name shape) required in
-        let spelt = rw shape at (sound_at BadName schema (codes "name") (string name) ms sound (text_found (get_member (codes "name") ms) name there)).0 in
+        let spelt = rw shape at (sound_at BadName schema (codes "name") (string name) ms sound
+        (text_found (get_member (codes "name") ms) name there)).0 in
         (or_parts (not (is_name name)) (is_built_in kind name) spelt).1
 
     by : (kind : Kind) → is_sound (schema_of kind) ms ≡ true → is_built_in kind (the_text_at (codes "name") ms) ≡ false
@@ -324,11 +329,13 @@ proper-bean ms sound =
     (codes "disposers") ms sound refl in
     let observers = proper-entries observer_decl (λ o. o.name) schemas.Observer (λ o h. ident-there schemas.Observer o h refl refl)
     (codes "observers") ms sound refl in
-    let of_producers = all-each_at producer_decl lists_of_producer schemas.Producer proper-producer schemas.Bean (codes "producers") ms sound refl in
+    let of_producers = all-each_at producer_decl lists_of_producer schemas.Producer proper-producer schemas.Bean
+    (codes "producers") ms sound refl in
     let of_observers = all-each_at observer_decl (λ o. point_names o.params ∷ []) schemas.Observer
     (λ o h. (proper-points schemas.Observer (codes "params") o h refl, tt)) schemas.Bean (codes "observers") ms sound refl in
     let params = subst (AllByRecursion IsProper) (flat_map_single (λ (o : ObserverDecl). point_names o.params) d.observers) of_observers in
-    let all = all-append (flat_map lists_of_producer d.producers) (map (λ (o : ObserverDecl). point_names o.params) d.observers) of_producers params in
+    let all = all-append (flat_map lists_of_producer d.producers)
+    (map (λ (o : ObserverDecl). point_names o.params) d.observers) of_producers params in
     (own.0, (own.1.0, (asked, (methods, (producers, (disposers, (observers, all)))))))
 
 -- each list of names is proper

@@ -73,7 +73,8 @@ params_lead bean bytes index way list such to =
     subst Q (sym to.4) (schemas.Bean, bean, refl, refl, inr (inl (index, to.1, refl, refl, refl, to.3, there.0, there.1)))
 
 -- of a producer
-pub to_producer : (bean : Members) (found : Option ℕ) (index : ℕ) (way : Way) → found ≡ Some index → FindsMethodAt (codes "producers") bean found
+pub to_producer : (bean : Members) (found : Option ℕ) (index : ℕ) (way : Way) → found ≡ Some index
+    → FindsMethodAt (codes "producers") bean found
     → IsToParams (codes "producers") index way.items
     → Finds Twice (Some (One (Table schemas.Bean))) (table bean) (has_param_named_as_point bean) (Some way)
 to_producer bean found index way some finds to =
@@ -84,7 +85,8 @@ to_producer bean found index way some finds to =
     )
 
 -- of an observer
-pub to_observer : (bean : Members) (found : Option ℕ) (index : ℕ) (way : Way) → found ≡ Some index → FindsMethodAt (codes "observers") bean found
+pub to_observer : (bean : Members) (found : Option ℕ) (index : ℕ) (way : Way) → found ≡ Some index
+    → FindsMethodAt (codes "observers") bean found
     → IsToParams (codes "observers") index way.items
     → Finds Twice (Some (One (Table schemas.Bean))) (table bean) (has_param_named_as_point bean) (Some way)
 to_observer bean found index way some finds to =

@@ -105,7 +105,8 @@ IsByKey bytes way longer = (key : String Global) × (string_bytes key ≡ bytes)
 
 -- the way goes by a key and a number to `params`
 abbrev pub IsToParams : List ℕ → ℕ → List Step → Type 0
-IsToParams bytes index way = (key : String Global) × (params : String Global) × (string_bytes key ≡ bytes) × (string_bytes params ≡ codes "params")
+IsToParams bytes index way = (key : String Global) × (params : String Global) × (string_bytes key ≡ bytes) × (string_bytes
+    params ≡ codes "params")
     × (way ≡ Key key ∷ Entry index ∷ Key params ∷ [])
 
 -- the entry at the number has the condition by itself

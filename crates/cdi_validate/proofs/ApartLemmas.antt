@@ -116,7 +116,8 @@ module _ {X T : Type 0} (tag : X → T) where
   abbrev pub Tagged : T → List X → Type 0
   Tagged t xs = AllByRecursion (λ x. tag x ≡ t) xs
 
-  pub differ-append : (t : T) (xs ys : List X) → Tagged t xs → AllByRecursion (λ y. tag y ≢ t) ys → Differ xs → Differ ys → Differ (xs ++ ys)
+  pub differ-append : (t : T) (xs ys : List X) → Tagged t xs → AllByRecursion (λ y. tag y ≢ t) ys → Differ xs → Differ ys
+      → Differ (xs ++ ys)
   differ-append t [] ys tagged others apart rest = rest
   differ-append t (x ∷ xs) ys tagged others apart rest =
       grind (arith, differ-append t xs ys tagged.1 others apart.1 rest, apart.0, tagged.0, tagged.1, apart.1, all-append, all-weaker)

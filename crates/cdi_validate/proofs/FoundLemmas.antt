@@ -29,7 +29,8 @@ found-at (e ∷ ds) d found = by (is_of (kind_of d) (name_of_decl d) e) found (f
     by false there later = let at = later there in (suc at.0, at.1)
 
 -- the records of its bean are found by the bean's name
-pub bean-records : (ds : List Decl) (bean : BeanDecl) → IsFound ds (decls.Bean bean) → records_in ds bean.name ≡ entries ds (decls.Bean bean)
+pub bean-records : (ds : List Decl) (bean : BeanDecl) → IsFound ds (decls.Bean bean)
+    → records_in ds bean.name ≡ entries ds (decls.Bean bean)
 unfolding records_in
 bean-records ds bean found = ap (λ o. records_declared ds (as_bean o)) found
 

@@ -129,7 +129,8 @@ filtered bs = filter (λ b. b.specializes) bs
 pub specializing-own : (ds es rest : List Decl) (d : Decl) → AreDistinct ds → es ++ d ∷ rest ≡ ds
     → specializing_by ds d ≡ filtered (enabled_bean ds d)
 specializing-own ds es rest (decls.Bean b) distinct split =
-    ap (λ t. cond (b.specializes && t) (b ∷ []) []) (ap is_first_enabled (bean-records ds b (found-next ds es rest (decls.Bean b) distinct split)))
+    ap (λ t. cond (b.specializes && t) (b ∷ []) [])
+    (ap is_first_enabled (bean-records ds b (found-next ds es rest (decls.Bean b) distinct split)))
     ∙ by b.specializes refl (managed ds b).is_enabled
   where
     by : (s : Bool) → b.specializes ≡ s → (t : Bool) → cond (s && t) (b ∷ []) [] ≡ filtered (cond t (b ∷ []) [])

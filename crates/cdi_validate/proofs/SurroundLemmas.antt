@@ -224,7 +224,8 @@ one-at nodes ds name [] j b at = absurd (none-some b at)
 one-at nodes ds name (decls.Bean d ∷ es) j b at =
     by (has nodes (text_of_id (managed_id d)) && has_binding_at_place ds name d) (λ i there. one-at nodes ds name es i b there) j at
   where
-    by : (is : Bool) → ((i : ℕ) → slice_get (flat_map (with_binding nodes ds name) es) i ≡ Some b → (k : ℕ) × (slice_get es k ≡ Some (decls.Bean b)))
+    by : (is : Bool) → ((i : ℕ) → slice_get (flat_map (with_binding nodes ds name) es) i ≡ Some b
+        → (k : ℕ) × (slice_get es k ≡ Some (decls.Bean b)))
         → (j : ℕ) → slice_get (cond is (d ∷ []) [] ++ flat_map (with_binding nodes ds name) es) j ≡ Some b
         → (k : ℕ) × (slice_get (decls.Bean d ∷ es) k ≡ Some (decls.Bean b))
     by true later zero there = (zero, ap (λ x. Some (decls.Bean x)) (same_Some d b there))
@@ -239,7 +240,8 @@ may-at ds nodes by_binding [] k b are at = absurd (none-some b at)
 may-at ds nodes by_binding (binding ∷ bindings) k b are at =
     one-at nodes ds binding.name ds k b (ap (λ beans. slice_get beans k) (sym (are binding.name)) ∙ at)
 
-pub bean-found : (ds : List Decl) (nodes : List (List ℕ)) (by_binding : BeansByBinding) (bindings : List Qual) (items : List (Bor BeanDecl)) (i : ℕ)
+pub bean-found : (ds : List Decl) (nodes : List (List ℕ)) (by_binding : BeansByBinding) (bindings : List Qual)
+    (items : List (Bor BeanDecl)) (i : ℕ)
     (bean : Bor BeanDecl) → AreDistinct ds → AreByBinding nodes ds by_binding → map (λ b. b.now) items ≡ may_surround by_binding bindings
     → i < length items → bean ≡ get_or items i bean → IsFound ds (decls.Bean bean.now)
 bean-found ds nodes by_binding bindings items i bean distinct are all lt is =

@@ -155,7 +155,8 @@ find-none [] = refl
 find-none (x ∷ xs) = find-none xs
 
 first-none : (ds : List Decl) (a b : BeanDecl) → a.specializes ≡ false → behind_two ds a b ≡ []
-first-none ds a b none = ap (λ cs. map (twice a.name b.name) (option_to_list (find (has (class_names (behind ds b))) cs))) (none-behind ds a none)
+first-none ds a b none = ap (λ cs. map (twice a.name b.name) (option_to_list (find (has (class_names (behind ds b))) cs)))
+    (none-behind ds a none)
 
 second-none : (ds : List Decl) (a b : BeanDecl) → b.specializes ≡ false → behind_two ds a b ≡ []
 second-none ds a b none =
@@ -257,7 +258,8 @@ find-some : (p : List ℕ → Bool) (cs : List (List ℕ)) (class : List ℕ) �
 find-some p [] class among passes = absurd (false≢true among)
 find-some p (c ∷ cs) class among passes = by (p c) refl (find-some p cs class)
   where
-    by : (t : Bool) → p c ≡ t → (has cs class ≡ true → p class ≡ true → (s : List ℕ) × (find p cs ≡ Some s) × (has cs s ≡ true) × (p s ≡ true))
+    by : (t : Bool) → p c ≡ t → (has cs class ≡ true → p class ≡ true
+        → (s : List ℕ) × (find p cs ≡ Some s) × (has cs s ≡ true) × (p s ≡ true))
         → (s : List ℕ) × (cond t (Some c) (find p cs) ≡ Some s) × (has (c ∷ cs) s ≡ true) × (p s ≡ true)
     by true e later = (c, refl, or_left (bytes_eq c c) (has cs c) (same_text c c refl), e)
     by false e later = elim (or_cases (bytes_eq c class) (has cs class) among) [
@@ -299,7 +301,8 @@ module _ {X : Type 0} (f : X → X → List Fault) (all : List (List ℕ)) where
     pairs-within xs (back-within (flat_map (f x) xs) (of_pairs f xs) within),
   )
 
-pub lines-told : (ds : List Decl) (line : List ℕ) → has (lines_of (faults_of_pairs ds)) line ≡ true → has (lines_of (specialized_twice ds)) line ≡ true
+pub lines-told : (ds : List Decl) (line : List ℕ) → has (lines_of (faults_of_pairs ds)) line ≡ true
+    → has (lines_of (specialized_twice ds)) line ≡ true
 unfolding specialized_twice
 lines-told ds line among = grind (arith, lines-keys, all-stand, all-has)
 

@@ -97,7 +97,8 @@ more_at old mid here node n p same is = elim (eqb_tells node n) [
 ]
 
 -- where nothing is left at a node, so many positions more are taken
-pub fewer_left : (left : List (Bor (List ℕ))) (node steps : ℕ) (none here : Bor (List ℕ)) → node < length left → here ≡ get_or left node here
+pub fewer_left : (left : List (Bor (List ℕ))) (node steps : ℕ) (none here : Bor (List ℕ)) → node < length left
+    → here ≡ get_or left node here
     → none.now ≡ [] → sum_by (λ ps. length ps.now) (set left node none) + steps + (length here.now - 0)
     ≡ sum_by (λ ps. length ps.now) left + steps
 fewer_left left node steps none here within is empty = omega (

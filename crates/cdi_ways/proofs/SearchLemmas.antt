@@ -44,7 +44,8 @@ AreSmall steps = (i : ℕ) (s : Step) → IsAt steps i s → s.depth ≤ i + 1
 abbrev AreWithin : List Step → ℕ → Type 0
 AreWithin steps depth = (i : ℕ) (s : Step) → IsAt steps i s → s.depth ≤ depth
 
-right-follow : (edges : List Edge) (node : ℕ) (left left' : ℕ → List ℕ) → Clears node left left' → AreRight edges left → AreRight edges left'
+right-follow : (edges : List Edge) (node : ℕ) (left left' : ℕ → List ℕ) → Clears node left left' → AreRight edges left
+    → AreRight edges left'
 right-follow edges node left left' clears right = λ n p has. right n p (still_left node left left' n p clears has)
 
 whole-follow : (edges : List Edge) (steps : List Step) (o : Option ℕ) (depth node : ℕ) (left left' : ℕ → List ℕ) → Clears node left left'
@@ -53,7 +54,8 @@ whole-follow edges steps o depth node left left' clears whole = λ n p leaves. e
   | inl has ↦ elim (left_or_cleared node left left' n p clears has) [
     | inl stays ↦ inl stays
     | inr cleared ↦
-        let new : (i : ℕ) × IsAt (with_steps steps o depth (left node)) i (step_along o depth p) = new_step steps o depth (left node) p cleared in
+        let new : (i : ℕ) × IsAt (with_steps steps o depth (left node)) i (step_along o depth p) = new_step steps o depth
+        (left node) p cleared in
         inr (new.0, step_along o depth p, new.1, refl)
   ]
   | inr followed ↦ inr (followed_more steps (map (step_along o depth) (left node)) p followed)

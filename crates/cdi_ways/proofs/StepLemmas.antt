@@ -72,5 +72,6 @@ pub new_step : (steps : List Step) (o : Option ℕ) (depth : ℕ) (ps : List ℕ
     → (i : ℕ) × IsAt (with_steps steps o depth ps) i (step_along o depth p)
 new_step steps o depth ps p has = (
   length steps + has.0,
-  at_second steps (map (step_along o depth) ps) (length steps + has.0) has.0 (step_along o depth p) refl (map_at (step_along o depth) ps has.0 p has.1),
+  at_second steps (map (step_along o depth) ps) (length steps + has.0) has.0 (step_along o depth p) refl
+      (map_at (step_along o depth) ps has.0 p has.1),
 )

@@ -65,7 +65,7 @@ some-empty None e = refl
 some-empty (Some x) e = absurd (cc)
 
 not-found : (b : Bool) (subject : Subject) → some_if b subject ≡ None → b ≡ false
-not-found t1 subject e = grind arith
+not-found b subject e = grind arith
 
 -- ---- faults
 
@@ -217,7 +217,7 @@ abbrev at_calls : List Decl → Decl → Mention → Option Subject
 at_calls ds d = lost_in ds (answer_to ds) (entries ds d) d
 
 where-enabled : (enabled test : Bool) → enabled ≡ true → (enabled && test) ≡ false → test ≡ false
-where-enabled t1 test is e = grind (arith, false≢true)
+where-enabled enabled test is e = grind (arith, false≢true)
 
 -- no point of what is enabled has a choice that the test finds
 none-found : (test : PointDecl → Choice → Bool) (ds : List Decl) (d : Decl) (place : PointPlace) (points : List PointDecl) (k : ℕ)

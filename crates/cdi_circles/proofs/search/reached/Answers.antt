@@ -16,7 +16,8 @@ taken-smaller c =
     (among_within within edges c.in-Some.taken) (at_end _ _ _ c.in-Some.ensures.items) c.in_ok-add_next-2.ensures
 
 pub taken-preserved : goal.taken-preserved
-taken-preserved c = Closing-step _ _ c.in-Some.taken _ _ _ _ _ c.taken.invariant (at_end _ _ _ c.in-Some.ensures.items) c.in_ok-add_next-2.ensures
+taken-preserved c = Closing-step _ _ c.in-Some.taken _ _ _ _ _ c.taken.invariant
+    (at_end _ _ _ c.in-Some.ensures.items) c.in_ok-add_next-2.ensures
 
 pub returns : goal.returns
 returns c =

@@ -20,4 +20,5 @@ of-requires-clause-evaluated g c =
 pub returns-clause-err : goal.returns-clause-err
 returns-clause-err g c =
     let old = c.args.live.now in
-    OnErr-from c.of.result (subst (EvaluatesSome old.decls (kept_in old)) (sym c.in_ok-found.ensures.ok) (evaluates_all old.decls (kept_in old)))
+    OnErr-from c.of.result (subst (EvaluatesSome old.decls (kept_in old)) (sym c.in_ok-found.ensures.ok)
+    (evaluates_all old.decls (kept_in old)))

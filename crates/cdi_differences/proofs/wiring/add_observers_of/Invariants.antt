@@ -5,7 +5,8 @@ use Rattle.cdi_differences.proofs.wiring.add_observers_of.Given as goal
 abbrev pub invariant-loop-mention : goal.invariant-loop-mention
 invariant-loop-mention g l =
     record {
-      lines : map shown_line l.lines.items ++ flat_map (observer_lines_in l.initial.container.decls) l.mention-iterator ≡ map shown_line l.initial.lines.items ++ observer_lines l.initial.container.decls l.owner;
+      lines : map shown_line l.lines.items ++ flat_map (observer_lines_in l.initial.container.decls) l.mention-iterator
+          ≡ map shown_line l.initial.lines.items ++ observer_lines l.initial.container.decls l.owner;
       decls : l.container.decls ≡ l.initial.container.decls;
       book : l.container.book ≡ l.initial.container.book;
     }

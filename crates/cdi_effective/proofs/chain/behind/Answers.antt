@@ -13,7 +13,8 @@ loop-step-init c =
     let b = c.args.bean.now in
     let ds = c.args.decls.now in (
       b.name ∷ [],
-      λ s. c.in_ok-insert.ensures.updates.0 s ∙ ap (λ x. cond (is_at (byte_order b.name) s) true x) (ap (λ (ks : List (List ℕ)). contains byte_order (record { keys = ks }) s) c.new-met.ensures.empty)
+      λ s. c.in_ok-insert.ensures.updates.0 s ∙ ap (λ x. cond (is_at (byte_order b.name) s) true x)
+          (ap (λ (ks : List (List ℕ)). contains byte_order (record { keys = ks }) s) c.new-met.ensures.empty)
           ∙ either (is_at (byte_order b.name) s) false ∙ ap (λ x. x || false) (at_name b.name s),
       ap (λ (l : List (Bor BeanDecl)). beans_in l ++ chain_behind limit ds (b.name ∷ []) b) c.new-list.ensures.items ∙ all-behind ds b,
     )
@@ -22,7 +23,8 @@ pub returns-in_default : goal.returns-in_default
 returns-in_default c =
     let ds = c.args.decls.now in
     let i = c.loop-step.invariant in
-    ended (beans_in c.loop-step.list.items) (chain_behind (limit - c.loop-step.step) ds i.0 c.loop-step.last.now) (behind ds c.args.bean.now)
+    ended (beans_in c.loop-step.list.items) (chain_behind (limit - c.loop-step.step) ds i.0 c.loop-step.last.now)
+    (behind ds c.args.bean.now)
     (ends-none (limit - c.loop-step.step) ds i.0 c.loop-step.last.now (sym c.in_default.ensures)) i.2
 
 pub returns-then-not-branch : goal.returns-then-not-branch
@@ -30,7 +32,8 @@ returns-then-not-branch c =
     let ds = c.args.decls.now in
     let i = c.loop-step.invariant in
     let next = c.in-Some.next.now in
-    ended (beans_in c.loop-step.list.items) (chain_behind (limit - c.loop-step.step) ds i.0 c.loop-step.last.now) (behind ds c.args.bean.now)
+    ended (beans_in c.loop-step.list.items) (chain_behind (limit - c.loop-step.step) ds i.0 c.loop-step.last.now)
+    (behind ds c.args.bean.now)
     (ends-met (limit - c.loop-step.step) ds i.0 c.loop-step.last.now next (sym c.in-Some.ensures)
     (sym (i.1 next.name) ∙ not-false (contains byte_order c.loop-step.met next.name)
     (sym c.in_ok-insert-2.ensures.added ∙ c.if-not-branch.true))) i.2
@@ -59,5 +62,6 @@ returns c =
     let ds = c.args.decls.now in
     let i = c.loop-step.invariant in
     let none : limit - c.loop-step.step ≡ 0 = omega arith in
-    ended (beans_in c.loop-step.list.items) (chain_behind (limit - c.loop-step.step) ds i.0 c.loop-step.last.now) (behind ds c.args.bean.now)
+    ended (beans_in c.loop-step.list.items) (chain_behind (limit - c.loop-step.step) ds i.0 c.loop-step.last.now)
+    (behind ds c.args.bean.now)
     (no-steps (limit - c.loop-step.step) ds i.0 c.loop-step.last.now none) i.2

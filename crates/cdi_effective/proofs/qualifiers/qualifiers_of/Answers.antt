@@ -9,4 +9,5 @@ returns-then-is_empty-2 c =
     let no_last : length c.args.last.now ≡ 0 = grind (arith, common_steps) in
     IfOk-weaker c.built_in.result _ _ (λ quals is. is ∙ built-in-order c.args.name
     ∙ ap (λ list. qualifiers_of (uses_in list) [] c.args.name) (sym (empty-from_length c.args.declared.now none))
-    ∙ ap (λ list. qualifiers_of (uses_in c.args.declared.now) list c.args.name) (sym (empty-from_length c.args.last.now no_last))) c.built_in.ensures
+    ∙ ap (λ list. qualifiers_of (uses_in c.args.declared.now) list c.args.name) (sym (empty-from_length c.args.last.now no_last)))
+    c.built_in.ensures

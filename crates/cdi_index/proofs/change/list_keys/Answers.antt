@@ -9,6 +9,7 @@ loop-read-preserved c =
     record {
       kept = keeps-list (word_of c.read-item.result) c.args.slot c.args.postings.now c.loop-read.postings c.list.new.self
           c.loop-read.invariant.kept lists;
-      listed = words-next word_of c.args.reads.now c.loop-read.read-index c.read-item.result c.args.slot c.loop-read.postings c.list.new.self
+      listed = words-next word_of c.args.reads.now c.loop-read.read-index c.read-item.result c.args.slot c.loop-read.postings
+          c.list.new.self
           c.loop-read-test.true c.read-item.is lists c.loop-read.invariant.listed;
     }

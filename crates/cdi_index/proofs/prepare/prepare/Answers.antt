@@ -31,14 +31,16 @@ returns-clause-counts c =
     let distinct = subst AreDistinct decls c.iter.ensures.distinct in
     let closures = c.after.ensures.closures
     ∙ ap (raised c.args.counts.closures) (counted c.args.decls.now c.args.draft.decls c.requires.edited.edits c.args.draft.keys
-    c.in_ok-affected.affected.keys c.in_ok-affected.affected.keys c.args.shelf.now c.reserve.new.self c.args.postings.now c.change_affected.new.postings
+    c.in_ok-affected.affected.keys c.in_ok-affected.affected.keys c.args.shelf.now c.reserve.new.self c.args.postings.now
+    c.change_affected.new.postings
     c.requires.shelf c.requires.exact c.requires.sound c.requires.edited.decls c.requires.edited.keys
     (λ k. c.in_ok-affected.ensures k ∙ ap (list_any (touches c.args.shelf.now c.args.postings.now k)) keys)
     refl kinds.Type refl c.in_ok-changes.changes.items c.as_slice-3.result.now _ distinct c.len.ensures.unique
     c.as_slice-3.ensures.value changes refl) in
     let beans = c.after.ensures.beans
     ∙ ap (raised c.args.counts.beans) (counted c.args.decls.now c.args.draft.decls c.requires.edited.edits c.args.draft.keys
-    c.in_ok-affected.affected.keys c.in_ok-affected.affected.keys c.args.shelf.now c.reserve.new.self c.args.postings.now c.change_affected.new.postings
+    c.in_ok-affected.affected.keys c.in_ok-affected.affected.keys c.args.shelf.now c.reserve.new.self c.args.postings.now
+    c.change_affected.new.postings
     c.requires.shelf c.requires.exact c.requires.sound c.requires.edited.decls c.requires.edited.keys
     (λ k. c.in_ok-affected.ensures k ∙ ap (list_any (touches c.args.shelf.now c.args.postings.now k)) keys)
     refl kinds.Bean refl c.in_ok-changes.changes.items c.as_slice-3.result.now _ distinct c.len.ensures.unique
@@ -75,7 +77,8 @@ returns-clause-next c =
     (exact-same c.args.shelf.now c.reserve.new.self c.reserve.ensures.entries c.reserve.ensures.others c.args.decls.now c.requires.exact)
     (sound-same c.args.shelf.now c.reserve.new.self c.reserve.ensures.entries c.reserve.ensures.others c.args.postings.now more
     c.change_affected.ensures.kept c.requires.sound)
-    (λ k none. sym (kept-of-others c.args.decls.now c.draft.inside.decls c.requires.edited.edits c.as_slice.result.now ks ks c.args.shelf.now
+    (λ k none. sym (kept-of-others c.args.decls.now c.draft.inside.decls c.requires.edited.edits c.as_slice.result.now ks ks
+    c.args.shelf.now
     c.reserve.new.self c.args.postings.now c.args.postings.now c.requires.shelf c.requires.exact c.requires.sound
     (decls ∙ c.requires.edited.decls) (keys ∙ c.requires.edited.keys) c.in_ok-affected.ensures refl c.reserve.ensures.entries
     c.reserve.ensures.others k none)
@@ -84,7 +87,8 @@ returns-clause-next c =
     (λ k. ap (lookup (same_key k)) (c.reserve-2.ensures.entries ∙ ap (λ m. m.entries) c.reserve.ensures.replaced)
     ∙ c.requires.replaced k)
     (λ k. c.in_ok-turns.ensures.records (get same_key c.reserve-2.new.self) k
-    ∙ ap (λ cs. cond (is_at_stake c.reserve.new.self cs k) (records_after c.reserve.new.self more ks cs k) (get same_key c.reserve-2.new.self k))
+    ∙ ap (λ cs. cond (is_at_stake c.reserve.new.self cs k) (records_after c.reserve.new.self more ks cs k)
+    (get same_key c.reserve-2.new.self k))
     (c.as_slice-2.ensures.value ∙ c.in_ok-changes.ensures.changes)))
     (omega (arith, c.in_ok-reserve-2.ensures.ok, c.len-2.ensures, c.in_ok-turns.turns.list.ok.0))
     c.in_ok-turns.ensures.keys

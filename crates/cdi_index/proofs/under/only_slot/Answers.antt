@@ -29,7 +29,8 @@ loop-word-preserved c = λ test.
     let each : Word → Bool = λ v. list_any (test v) (under c.args.postings.now v) in
     let w = c.word-item.result in
     let slots = c.under.result.now in
-    let step : list_any each (take (c.loop-word.word-index + 1) c.args.words.now) ≡ (found test c.loop-word.only || list_any (test w) slots) =
+    let step : list_any each (take (c.loop-word.word-index + 1) c.args.words.now) ≡ (found test c.loop-word.only || list_any
+    (test w) slots) =
     list_any_more each c.args.words.now c.loop-word.word-index w c.loop-word-test.true
     ∙ ap (λ b. b || each (get_or c.args.words.now c.loop-word.word-index w)) (c.loop-word.invariant test)
     ∙ ap (λ v. found test c.loop-word.only || each v) (sym c.word-item.is)

@@ -8,4 +8,5 @@ returns c t =
     let words = word_at reasons.Binds c.args.binding.now ∷ [] in
     c.in_ok-add_classes_at.ensures t
     ∙ ap (λ names. contains bytes_eq c.args.classes.now t || holds names t)
-    (walk class_named (has_one ds words) ds 0 c.positions_under-positions.result ds (λ i. ap (slice_get ds) (omega arith)) c.positions_under-positions.ensures)
+    (walk class_named (has_one ds words) ds 0 c.positions_under-positions.result ds
+    (λ i. ap (slice_get ds) (omega arith)) c.positions_under-positions.ensures)

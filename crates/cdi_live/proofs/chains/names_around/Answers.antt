@@ -24,7 +24,8 @@ returns c =
     let place = c.args.place.now in
     let us : List Qual = c.as_slice-4.result.now in
     let list : List Qual = in_text_order (set_at ds class place) in
-    let is : c.in_ok-bindings.bindings ≡ list = c.in_ok-bindings.ensures ∙ ap (λ l. in_text_order (set_at l class place)) c.decls.ensures.value in
+    let is : c.in_ok-bindings.bindings ≡ list = c.in_ok-bindings.ensures
+    ∙ ap (λ l. in_text_order (set_at l class place)) c.decls.ensures.value in
     let seen : lent_in c.deref.result.now ≡ filter (is_seen list place) (in_order ds) =
     ap lent_in c.deref.ensures.value ∙ c.in_ok-seen.ensures
     ∙ ap (λ l. filter (is_seen c.as_slice-3.result.now place) (in_order l)) c.decls-2.ensures.value

@@ -10,8 +10,10 @@ returns-then-not-is_asked-clause-ok c t us =
     let class = c.args.bean_type in
     let uses = c.args.uses.now in
     let is : is_wanted ds (ChoiceKey class uses) ≡ c.is_asked.result =
-    wanted-is class uses ds ∙ ap (λ vs. list_any (asks_for questions.Choice class vs) ds) (sym c.as_slice.ensures.value) ∙ sym c.is_asked.ensures in
-    sym (ap (λ w. if w && (bytes_eq class t && same_quals uses us) then Some c.args.choice.now else answer same_quals c.args.choices.now t us)
+    wanted-is class uses ds ∙ ap (λ vs. list_any (asks_for questions.Choice class vs) ds) (sym c.as_slice.ensures.value)
+    ∙ sym c.is_asked.ensures in
+    sym (ap (λ w. if w && (bytes_eq class t && same_quals uses us) then Some c.args.choice.now else answer same_quals c.args.choices.now t
+    us)
     (is ∙ c.if-not-is_asked.true))
 
 pub returns-clause-ok : goal.returns-clause-ok
@@ -21,7 +23,8 @@ returns-clause-ok c t us =
     let uses = c.args.uses.now in
     let old = answer same_quals c.args.choices.now t us in
     let is : is_wanted ds (ChoiceKey class uses) ≡ c.is_asked.result =
-    wanted-is class uses ds ∙ ap (λ vs. list_any (asks_for questions.Choice class vs) ds) (sym c.as_slice.ensures.value) ∙ sym c.is_asked.ensures in
+    wanted-is class uses ds ∙ ap (λ vs. list_any (asks_for questions.Choice class vs) ds) (sym c.as_slice.ensures.value)
+    ∙ sym c.is_asked.ensures in
     c.in_ok-keep.ensures.ok t us
     ∙ ap (λ vs. if bytes_eq class t && same_quals vs us then Some c.in_ok-answer.answer else old) c.in_ok-part.ensures
     ∙ ap (λ a. if bytes_eq class t && same_quals uses us then Some a else old) c.in_ok-answer.ensures

@@ -12,7 +12,8 @@ returns-then-is_none c t us =
     let none : [] ≡ parts =
     take-whole parts 0 (sym c.part_at.ensures.part ∙ none-copied c.part_at.result c.if-is_none.ensures) in
     nothing-more (is_gone c.args.gone.now.items t us) (bytes_eq t class)
-    ∙ ap (λ qs. is_gone c.args.gone.now.items t us || (bytes_eq t class && list_any (λ q. same_quals us q && sees_other ds es class q) qs)) none
+    ∙ ap (λ qs. is_gone c.args.gone.now.items t us || (bytes_eq t class && list_any (λ q. same_quals us q && sees_other ds es class q) qs))
+    none
 
 pub overflow_add-index : goal.overflow_add-index
 overflow_add-index c = omega (

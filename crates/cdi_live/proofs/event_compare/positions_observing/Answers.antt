@@ -16,6 +16,7 @@ returns c p d there none =
     unobserved sides c.requires c.requires.distinct
     c.requires.apart types before found p d there
     (sym (c.positions_after.ensures p
-    ∙ ap (λ ws. list_any (λ q. is_place_of_one ds sides.next.now q p) (marked_from 0 before) || list_any (λ w. is_listed sides.changed.now w p) ws)
+    ∙ ap (λ ws. list_any (λ q. is_place_of_one ds sides.next.now q p) (marked_from 0 before) || list_any
+    (λ w. is_listed sides.changed.now w p) ws)
     (c.deref-2.ensures.value ∙ c.in_ok-words.ensures))
     ∙ none)

@@ -10,7 +10,8 @@ returns-then-not-is_asked-clause-ok c t us =
     let class = c.args.event_type in
     let uses = c.args.quals.now in
     let is : is_wanted ds (EventKey class uses) ≡ c.is_asked.result =
-    event-wanted-is class uses ds ∙ ap (λ vs. list_any (asks_for questions.Event class vs) ds) (sym c.as_slice.ensures.value) ∙ sym c.is_asked.ensures in
+    event-wanted-is class uses ds ∙ ap (λ vs. list_any (asks_for questions.Event class vs) ds) (sym c.as_slice.ensures.value)
+    ∙ sym c.is_asked.ensures in
     sym (ap (λ w. if w && (bytes_eq class t && same_quals uses us) then Some c.args.ids.now else answer same_quals c.args.events.now t us)
     (is ∙ c.if-not-is_asked.true))
 
@@ -21,7 +22,8 @@ returns-clause-ok c t us =
     let uses = c.args.quals.now in
     let old = answer same_quals c.args.events.now t us in
     let is : is_wanted ds (EventKey class uses) ≡ c.is_asked.result =
-    event-wanted-is class uses ds ∙ ap (λ vs. list_any (asks_for questions.Event class vs) ds) (sym c.as_slice.ensures.value) ∙ sym c.is_asked.ensures in
+    event-wanted-is class uses ds ∙ ap (λ vs. list_any (asks_for questions.Event class vs) ds) (sym c.as_slice.ensures.value)
+    ∙ sym c.is_asked.ensures in
     c.in_ok-keep.ensures.ok t us
     ∙ ap (λ vs. if bytes_eq class t && same_quals vs us then Some c.in_ok-answer.answer else old) c.in_ok-part.ensures
     ∙ ap (λ a. if bytes_eq class t && same_quals uses us then Some a else old) c.in_ok-answer.ensures

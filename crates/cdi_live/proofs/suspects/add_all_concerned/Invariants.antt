@@ -3,5 +3,6 @@ use Rattle.cdi_live.specs.Suspects.{concerned_at}
 use Rattle.cdi_live.proofs.suspects.add_all_concerned.Given as goal
 
 abbrev pub invariant-loop-position : goal.invariant-loop-position
-invariant-loop-position l = (t : List ℕ) → (contains bytes_eq l.types t || holds (flat_map (concerned_at l.index.decls) l.position-iterator) t)
+invariant-loop-position l = (t : List ℕ)
+    → (contains bytes_eq l.types t || holds (flat_map (concerned_at l.index.decls) l.position-iterator) t)
     ≡ (contains bytes_eq l.fn.types t || holds (flat_map (concerned_at l.index.decls) (marked_from 0 l.positions)) t)

@@ -8,4 +8,5 @@ returns c t =
     let words = word_at reasons.Qualifies c.args.qualifier.now ∷ [] in
     c.in_ok-add_all_concerned.ensures t
     ∙ ap (λ names. contains bytes_eq c.args.types.now t || holds names t)
-    (walk (concerned ds) (has_one ds words) ds 0 c.positions_under-positions.result ds (λ i. ap (slice_get ds) (omega arith)) c.positions_under-positions.ensures)
+    (walk (concerned ds) (has_one ds words) ds 0 c.positions_under-positions.result ds
+    (λ i. ap (slice_get ds) (omega arith)) c.positions_under-positions.ensures)

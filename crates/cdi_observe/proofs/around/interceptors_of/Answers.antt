@@ -11,7 +11,8 @@ push_names_at-requires-clause-place g c =
     subst (AllByRecursion (λ place. has_place bean place ≡ true)) (sym (c.as_slice-place-items.ensures.value ∙ c.in_ok-places.ensures))
     (has-each_place bean) in
     subst (λ place. has_place bean place ≡ true) (sym c.place-item.is)
-    (All-from_recursion (λ place. has_place bean place ≡ true) items each c.loop-place.place-index c.place-item.result c.loop-place-test.true)
+    (All-from_recursion (λ place. has_place bean place ≡ true) items each c.loop-place.place-index c.place-item.result
+    c.loop-place-test.true)
 
 pub push_names_at-requires-clause-answerable : goal.push_names_at-requires-clause-answerable
 push_names_at-requires-clause-answerable g c =

@@ -25,7 +25,8 @@ ask-requires g c =
     let i = c.loop-key.key-index in
     let k = c.key-item.result in
     subst (λ ds. is_told ds (asked_key k) ≡ true) (sym c.loop-key.invariant.same)
-    (subst (λ key. is_told (g.V.View.list c.args.view.now) (asked_key key) ≡ true) (sym c.key-item.is) (c.requires i k c.loop-key-test.true))
+    (subst (λ key. is_told (g.V.View.list c.args.view.now) (asked_key key) ≡ true) (sym c.key-item.is)
+    (c.requires i k c.loop-key-test.true))
 
 pub loop-key-preserved : goal.loop-key-preserved
 loop-key-preserved g c =

@@ -56,4 +56,5 @@ returns-clause-staged g c = λ all.
 
 pub returns-clause-evaluated : goal.returns-clause-evaluated
 returns-clause-evaluated g c =
-    evaluated-all (g.V.View.list c.args.view.now) (g.V.View.kept c.args.view.now) (g.V.View.kept c.ask_each.new.view) (returns-clause-ok g c)
+    evaluated-all (g.V.View.list c.args.view.now) (g.V.View.kept c.args.view.now) (g.V.View.kept c.ask_each.new.view)
+    (returns-clause-ok g c)

@@ -13,4 +13,5 @@ overflow_add-count c =
 
 pub loop-word-preserved : goal.loop-word-preserved
 loop-word-preserved c =
-    ap (λ n. n + count_ones (get_or c.args.words.now c.loop-word.word-index 0)) c.loop-word.invariant ∙ sym (count-more c.args.words.now c.loop-word.word-index c.loop-word-test.true (omega arith))
+    ap (λ n. n + count_ones (get_or c.args.words.now c.loop-word.word-index 0)) c.loop-word.invariant
+    ∙ sym (count-more c.args.words.now c.loop-word.word-index c.loop-word-test.true (omega arith))

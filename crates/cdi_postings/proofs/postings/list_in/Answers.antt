@@ -34,4 +34,5 @@ returns-clause-ok c =
     (λ k. c.in_ok-insert-2.ensures.updates.0 k
     ∙ ap (λ b. cond (nat_eq c.args.slot k) true b)
     (ap (list_any (nat_eq k)) c.new-slots.ensures.empty ∙ sym (ap (λ o. holds_one o k) none)))
-    (λ q. c.in_ok-insert-3.ensures.updates.0 q ∙ ap (λ m. cond (same_word c.args.word q) (Some c.insert-2.new.self) (get same_word m q)) same)
+    (λ q. c.in_ok-insert-3.ensures.updates.0 q
+    ∙ ap (λ m. cond (same_word c.args.word q) (Some c.insert-2.new.self) (get same_word m q)) same)

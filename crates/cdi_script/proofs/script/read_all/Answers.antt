@@ -5,7 +5,8 @@ use Rattle.cdi_script.proofs.script.read_all.Goals as goal
 
 pub loop-fault-init : goal.loop-fault-init
 loop-fault-init g c = (
-  goes_first g.R.Read.remaining g.W.Write.contents 16777216 65536 (setting_from c.args.intake.now.runner.quiet c.args.container.now) (reader_of c.args.console.now)
+  goes_first g.R.Read.remaining g.W.Write.contents 16777216 65536 (setting_from c.args.intake.now.runner.quiet c.args.container.now)
+      (reader_of c.args.console.now)
       (writer_of c.args.console.now) c.args.intake.now
       c.requires.fresh refl c.requires.reader_fresh.0 c.requires.reader_fresh.1 c.requires.writer_fresh.0 c.requires.writer_fresh.1,
   (refl, refl),
@@ -14,7 +15,8 @@ loop-fault-init g c = (
 pub loop-fault-preserved : goal.loop-fault-preserved
 loop-fault-preserved g c =
     let same : c.writer-in-Ok.result.now ≡ writer_of c.loop-fault.console = c.writer-in-Ok.ensures.value ∙ c.in-Ok.ensures.writer in (
-      goes_on g.R.Read.remaining g.W.Write.contents 16777216 65536 (setting_from c.args.intake.now.runner.quiet c.args.container.now) (reader_of c.args.console.now)
+      goes_on g.R.Read.remaining g.W.Write.contents 16777216 65536 (setting_from c.args.intake.now.runner.quiet c.args.container.now)
+          (reader_of c.args.console.now)
           (writer_of c.args.console.now)
           (reader_of c.loop-fault.console) (reader_of c.read_some.new.console) (writer_of c.loop-fault.console) c.feed.new.writer
           (intake_on c.loop-fault.intake c.loop-fault.container) (intake_on c.feed.new.intake c.feed.new.container) c.in-Ok.n

@@ -13,4 +13,5 @@ returns-in_ok-points-in-Some-2 c =
     ∙ c.in_ok-points-in-Some.ensures in
     let H : List (List ℕ) → Type 0 = λ ns. HasTexts c.in_ok-points-in-Some-2.points ns in
     let P : Items → Type 0 = λ ds. IfOk c.first_with_param_in.result (FindsMethod names ds) in
-    subst P (sym (ap (λ o. unwrap_or o no_items) there)) (c.first_with_param_in.ensures names (subst H points c.in_ok-points-in-Some-2.ensures))
+    subst P (sym (ap (λ o. unwrap_or o no_items) there))
+    (c.first_with_param_in.ensures names (subst H points c.in_ok-points-in-Some-2.ensures))

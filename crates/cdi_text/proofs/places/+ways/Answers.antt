@@ -28,7 +28,8 @@ way_in_table-loop-key-preserved t c =
     let key = c.in-Some-2.key.now in
     let v = c.in-Some-2.value.now in
     let steps = c.in-Some-2.ensures.steps in (
-      without_next c.args.condition c.args.schema c.loop-key.key-iterator c.next.new.self key v c.shape_of-shape.result c.in_ok-way-2.field-0
+      without_next c.args.condition c.args.schema c.loop-key.key-iterator c.next.new.self key v c.shape_of-shape.result
+          c.in_ok-way-2.field-0
           steps (c.shape_of-shape.ensures ∙ ap (shape_of c.args.schema) c.as_str.ensures.value) c.in_default-2.is c.in_ok-way-2.ensures
           ∙ c.loop-key.invariant.0,
       λ bytes d h. c.loop-key.invariant.1 bytes d (has_later c.loop-key.key-iterator c.next.new.self key v bytes d steps h),

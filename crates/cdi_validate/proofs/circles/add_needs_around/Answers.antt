@@ -45,11 +45,13 @@ returns-then-is_empty g c =
     let next = c.push_chosen.new.next in
     let none : next.items ≡ [] = nil_from_length next.items
     (omega (arith, next.ok.0, eqb-true next.len 0 (sym c.is_empty.ensures ∙ c.if-is_empty.true))) in
-    let chosen = chosen-lent ds c.as_slice.result.now points c.in_ok-answers.answers.items c.as_slice-2.result.now c.as_slice-2.ensures.value
+    let chosen = chosen-lent ds c.as_slice.result.now points c.in_ok-answers.answers.items c.as_slice-2.result.now
+    c.as_slice-2.ensures.value
     c.in_ok-answers.ensures c.as_slice.ensures in
     adds-none-around ds nodes c.args.interceptor.now (chosen_for ds points) c.args.edges.now
     (inr (ap (filter (has nodes)) (sym chosen)
-    ∙ ap (λ start. start ++ filter (has nodes) (flat_map chosen_one (map lent_value c.as_slice-2.result.now))) (sym c.new-chosen.ensures.items)
+    ∙ ap (λ start. start ++ filter (has nodes) (flat_map chosen_one (map lent_value c.as_slice-2.result.now)))
+    (sym c.new-chosen.ensures.items)
     ∙ sym c.in_ok-push_chosen.ensures ∙ none))
 
 pub loop-bean-init : goal.loop-bean-init

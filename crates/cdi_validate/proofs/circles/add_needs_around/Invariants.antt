@@ -7,4 +7,5 @@ invariant-loop-bean g l = (x : List ℕ) → next_in l.edges x ++ between (keys 
     (flat_map (need_around (g.V.View.list l.view) l.interceptor (chosen_for (g.V.View.list l.view) l.interceptor.points))
     (map (λ bean. declared.Bean bean) (map (λ bean. bean.now) (drop l.bean-index l.bean-items)))) x
     ≡ next_in l.fn.edges x ++ between (keys l.dependents)
-    (flat_map (need_around (g.V.View.list l.view) l.interceptor (chosen_for (g.V.View.list l.view) l.interceptor.points)) (g.V.View.list l.view)) x
+    (flat_map (need_around (g.V.View.list l.view) l.interceptor (chosen_for (g.V.View.list l.view) l.interceptor.points))
+    (g.V.View.list l.view)) x

@@ -19,7 +19,8 @@ loop-decl-init g c =
 
 pub add_needs-requires-clause-by_binding : goal.add_needs-requires-clause-by_binding
 add_needs-requires-clause-by_binding g c =
-    subst (λ ds. AreByBinding (keys c.args.dependents.now) ds c.in_ok-by_binding.by_binding) c.decls-decls.ensures.value c.in_ok-by_binding.ensures
+    subst (λ ds. AreByBinding (keys c.args.dependents.now) ds c.in_ok-by_binding.by_binding) c.decls-decls.ensures.value
+    c.in_ok-by_binding.ensures
 
 pub add_needs-requires-clause-found : goal.add_needs-requires-clause-found
 add_needs-requires-clause-found g c =

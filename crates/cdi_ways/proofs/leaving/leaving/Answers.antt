@@ -16,5 +16,6 @@ loop-position-preserved c =
 pub returns : goal.returns
 returns c = record {
   right = c.loop-position.invariant.0;
-  whole = λ node p leaves. c.loop-position.invariant.1 node p (omega (arith, c.loop-position-test.false, slice_get_within c.args.edges.now p leaves.0 leaves.1)) leaves;
+  whole = λ node p leaves. c.loop-position.invariant.1 node p
+      (omega (arith, c.loop-position-test.false, slice_get_within c.args.edges.now p leaves.0 leaves.1)) leaves;
 }

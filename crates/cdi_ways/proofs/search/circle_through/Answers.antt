@@ -11,7 +11,8 @@ edge_at edges p = get_or edges p (record { from = 0; to = 0 })
 
 is_there : (search : Search) (place : ℕ) (s : Step) → place < vec_len search.steps → s ≡ get_or search.steps.items place s
     → IsAt search.steps.items place s
-is_there search place s within read = slice_get_read search.steps.items (vec_len search.steps) place s (omega (arith, search.steps.ok.0)) within read
+is_there search place s within read = slice_get_read search.steps.items (vec_len search.steps) place s
+    (omega (arith, search.steps.ok.0)) within read
 
 pub returns-then-to-start-clause-way : goal.returns-then-to-start-clause-way
 returns-then-to-start-clause-way c =
@@ -61,7 +62,8 @@ taken-preserved c =
     let is : slice_get edges s.edge ≡ Some (edge_at edges s.edge) =
     edge_read edges c.args.start steps place s (record { from = 0; to = 0 }) c.taken.invariant.0.led at in (
       subst (λ ss. IsSearch edges c.args.start (left_at new.left.items) ss (place + 1)) (sym c.in_ok-follow.ensures.steps)
-          (search_next edges c.args.start (left_at old.left.items) (left_at new.left.items) steps place s (edge_at edges s.edge) c.taken.invariant.0
+          (search_next edges c.args.start (left_at old.left.items) (left_at new.left.items) steps place s
+          (edge_at edges s.edge) c.taken.invariant.0
           at is c.if-to-start.false c.in_ok-follow.ensures.left),
       omega (arith, ap length c.in_ok-follow.ensures.steps ∙ length-append steps _, old.steps.ok.0, new.steps.ok.0, within),
     )

@@ -47,7 +47,8 @@ returns c =
     let steps : List Step = c.args.steps.now in
     record {
       way = λ edges start node led ends. subst (λ ps. IsWay edges start node ps) (sym c.reverse.ensures.items)
-          (c.back.invariant.way edges start start node led (subst (λ o. LeadsTo edges start steps o start) (sym c.in_default.is) refl) ends);
+          (c.back.invariant.way edges start start node led
+          (subst (λ o. LeadsTo edges start steps o start) (sym c.in_default.is) refl) ends);
       edges = omega (
         arith,
         ap length c.reverse.ensures.items ∙ length-reverse c.back.way.items,

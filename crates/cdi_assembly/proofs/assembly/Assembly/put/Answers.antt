@@ -13,4 +13,5 @@ returns-in-Ok-clause-decls g c = OnOk-from c.note_put.result
 pub returns-in_ok-push-in-Err-Refused-clause-decls : goal.returns-in_ok-push-in-Err-Refused-clause-decls
 returns-in_ok-push-in-Err-Refused-clause-decls g c =
     left_if_refused c.args.container.now.decls c.put.new.self.decls (decl_of c.args.text.now) c.in-Err-Refused.refusal
-    (rw c.in-Err-Refused.field-0-is at c.in-Err-Refused.ensures.answer) (ap (λ (s : State). s.decls) (rw c.in-Err-Refused.field-0-is at c.in-Err-Refused.ensures.err))
+    (rw c.in-Err-Refused.field-0-is at c.in-Err-Refused.ensures.answer)
+    (ap (λ (s : State). s.decls) (rw c.in-Err-Refused.field-0-is at c.in-Err-Refused.ensures.err))

@@ -20,13 +20,15 @@ returns-in_err-ids-clause-step g c =
 
 pub invariant_of-self-2 : goal.invariant_of-self-2
 invariant_of-self-2 g c =
-    rests_asked c.self.inside.deployment c.observers.new.self (EventKey c.args.event_type c.args.quals.now ∷ []) c.self.inside.run.moment c.self.inside.told
+    rests_asked c.self.inside.deployment c.observers.new.self
+    (EventKey c.args.event_type c.args.quals.now ∷ []) c.self.inside.run.moment c.self.inside.told
     c.in_ok-ids.ensures.asked c.self.invariant (λ wired. c.self.invariant.told_now (sym c.observers.ensures.wired ∙ wired))
 
 pub returns-clause-ok : goal.returns-clause-ok
 returns-clause-ok g c =
     asked_left c.self.inside.deployment c.observers.new.self c.self.inside.told (trace_names c.observers.new.self c.self.inside.told)
-    c.self.inside.run.moment c.args.self.now c.restart.new.self (EventKey c.args.event_type c.args.quals.now ∷ []) c.self.view_is c.in_ok-ids.ensures.asked c.restart.ensures
+    c.self.inside.run.moment c.args.self.now c.restart.new.self
+    (EventKey c.args.event_type c.args.quals.now ∷ []) c.self.view_is c.in_ok-ids.ensures.asked c.restart.ensures
 
 pub returns-clause-step : goal.returns-clause-step
 returns-clause-step g c = (

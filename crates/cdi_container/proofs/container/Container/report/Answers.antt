@@ -19,7 +19,8 @@ returns-in_err-faults-clause-err g c =
 
 pub returns-in_err-faults-clause-step : goal.returns-in_err-faults-clause-step
 returns-in_err-faults-clause-step g c =
-    report_unserved c.args.self.now (standing_at c.report.new.self (trace_names c.report.new.self c.self.inside.told) c.self.inside.run.moment)
+    report_unserved c.args.self.now (standing_at c.report.new.self
+    (trace_names c.report.new.self c.self.inside.told) c.self.inside.run.moment)
     c.from_residual.result c.from_residual.ensures.0
     (subst (λ (s : State). AsksSome c.args.self.now (wanted s.decls)
     (standing_at c.report.new.self (trace_names c.report.new.self c.self.inside.told) c.self.inside.run.moment)) c.self.view_is
@@ -28,7 +29,8 @@ returns-in_err-faults-clause-step g c =
 
 pub invariant_of-self-2 : goal.invariant_of-self-2
 invariant_of-self-2 g c =
-    rests_asked c.self.inside.deployment c.report.new.self (wanted c.self.inside.deployment.decls) c.self.inside.run.moment c.self.inside.told
+    rests_asked c.self.inside.deployment c.report.new.self
+    (wanted c.self.inside.deployment.decls) c.self.inside.run.moment c.self.inside.told
     c.in_ok-faults.ensures.asked c.self.invariant (λ wired. c.self.invariant.told_now (sym c.report.ensures.wired ∙ wired))
 
 pub returns-clause-ok : goal.returns-clause-ok

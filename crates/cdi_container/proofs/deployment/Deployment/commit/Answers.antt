@@ -7,7 +7,8 @@ returns-clause-new g c =
     let book = g.B.Bodies.promises c.self.inside.book in
     ap (λ (o : Option Wiring). deployed_on c.take_over.new.live book (is_sound o)) c.take-wiring.ensures.after
     ∙ subst (λ (d : Deployed). deployed_on c.take_over.new.live book false ≡ redeployed d) c.self.view_is
-    (commits c.self.inside.live c.take_over.new.live book (is_sound c.self.inside.wiring) c.take_over.ensures.wanted c.take_over.ensures.new)
+    (commits c.self.inside.live c.take_over.new.live book
+    (is_sound c.self.inside.wiring) c.take_over.ensures.wanted c.take_over.ensures.new)
 
 pub invariant_of-self : goal.invariant_of-self
 invariant_of-self g c =

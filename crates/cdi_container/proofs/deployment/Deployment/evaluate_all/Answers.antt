@@ -5,7 +5,8 @@ use Rattle.cdi_container.proofs.deployment.Deployment.evaluate_all.Goals as goal
 
 pub invariant_of-self : goal.invariant_of-self
 invariant_of-self g c =
-    stays_right c.self.inside.live c.evaluate.new.view (g.B.Bodies.promises c.self.inside.book) c.self.inside.wiring c.self.inside.unsettled c.self.inside.is_readied
+    stays_right c.self.inside.live c.evaluate.new.view
+    (g.B.Bodies.promises c.self.inside.book) c.self.inside.wiring c.self.inside.unsettled c.self.inside.is_readied
     c.evaluate.ensures.list
     (still_evaluated c.evaluate.result c.self.inside.live c.evaluate.new.view c.evaluate.ensures.ok c.evaluate.ensures.err)
     c.self.invariant
@@ -25,7 +26,8 @@ returns-in_err-evaluate-clause-order g c =
 
 pub invariant_of-self-2 : goal.invariant_of-self-2
 invariant_of-self-2 g c =
-    stays_right c.self.inside.live c.evaluate.new.view (g.B.Bodies.promises c.self.inside.book) c.self.inside.wiring c.self.inside.unsettled c.self.inside.is_readied
+    stays_right c.self.inside.live c.evaluate.new.view
+    (g.B.Bodies.promises c.self.inside.book) c.self.inside.wiring c.self.inside.unsettled c.self.inside.is_readied
     c.evaluate.ensures.list
     (still_evaluated c.evaluate.result c.self.inside.live c.evaluate.new.view c.evaluate.ensures.ok c.evaluate.ensures.err)
     c.self.invariant

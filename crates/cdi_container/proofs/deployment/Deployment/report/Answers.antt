@@ -12,7 +12,8 @@ report-requires-clause-settled g c = c.self.invariant.settled
 
 pub invariant_of-self : goal.invariant_of-self
 invariant_of-self g c =
-    reported_right c.self.inside.live c.report.new.view (g.B.Bodies.promises c.self.inside.book) c.self.inside.wiring c.self.inside.unsettled
+    reported_right c.self.inside.live c.report.new.view
+    (g.B.Bodies.promises c.self.inside.book) c.self.inside.wiring c.self.inside.unsettled
     c.report.new.self c.self.inside.is_readied c.report.ensures.list
     (still_evaluated c.report.result c.self.inside.live c.report.new.view c.report.ensures.ok c.report.ensures.err) c.report.ensures.settled
     c.self.invariant

@@ -15,7 +15,8 @@ returns-in-Some-clause-asked g c =
 
 pub invariant_of-self : goal.invariant_of-self
 invariant_of-self g c =
-    reported_right c.self.inside.live c.find_wiring.new.live (g.B.Bodies.promises c.self.inside.book) c.self.inside.wiring c.self.inside.unsettled
+    reported_right c.self.inside.live c.find_wiring.new.live
+    (g.B.Bodies.promises c.self.inside.book) c.self.inside.wiring c.self.inside.unsettled
     c.find_wiring.new.unsettled c.self.inside.is_readied c.find_wiring.ensures.list
     (still_evaluated c.find_wiring.result c.self.inside.live c.find_wiring.new.live c.find_wiring.ensures.ok c.find_wiring.ensures.err)
     c.find_wiring.ensures.settled c.self.invariant
@@ -31,7 +32,8 @@ returns-in_err-wiring-clause-err g c =
 
 pub invariant_of-self-2 : goal.invariant_of-self-2
 invariant_of-self-2 g c =
-    wires_right c.self.inside.live c.find_wiring.new.live (g.B.Bodies.promises c.self.inside.book) c.self.inside.wiring c.in_ok-wiring.wiring
+    wires_right c.self.inside.live c.find_wiring.new.live
+    (g.B.Bodies.promises c.self.inside.book) c.self.inside.wiring c.in_ok-wiring.wiring
     c.self.inside.unsettled c.find_wiring.new.unsettled c.self.inside.is_readied c.find_wiring.ensures.list c.in_ok-wiring.ensures.wiring
     (knows_all c.self.inside.live c.find_wiring.new.live c.find_wiring.ensures.list c.in_ok-wiring.ensures.ok) c.find_wiring.ensures.settled
     c.self.invariant

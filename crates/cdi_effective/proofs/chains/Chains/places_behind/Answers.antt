@@ -31,7 +31,8 @@ returns-then-index c =
     (limit - c.loop-step.step) c.in-Some-next.next c.loop-step.invariant (sym c.in-Some-next.ensures)
     (known-there c.loop-step.met.items c.in-Some-next.next c.index.result.now
     (next-within c.args.self.now.decls.now c.args.bean.now c.loop-step.places.items c.loop-step.met.items c.loop-step.last
-    (limit - c.loop-step.step) c.in-Some-next.next c.loop-step.invariant (sym c.in-Some-next.ensures)) (sym c.index.ensures ∙ c.if-index.true))
+    (limit - c.loop-step.step) c.in-Some-next.next c.loop-step.invariant (sym c.in-Some-next.ensures))
+    (sym c.index.ensures ∙ c.if-index.true))
 
 pub loop-step-preserved : goal.loop-step-preserved
 loop-step-preserved c =

@@ -7,7 +7,8 @@ pub returns : goal.returns
 returns c =
     let ds = c.args.self.now.decls in
     IfOk-weaker c.sought_under.result
-    (λ list. map (λ bean. bean.now) list.items ≡ filter (has_name c.args.name.now) (beans_under ds (word_at reasons.HasName c.args.name.now ∷ [])))
+    (λ list. map (λ bean. bean.now) list.items ≡ filter (has_name c.args.name.now)
+    (beans_under ds (word_at reasons.HasName c.args.name.now ∷ [])))
     (λ list. map (λ bean. bean.now) list.items ≡ filter (has_name c.args.name.now) (beans ds))
     (λ list are. are ∙ of-name ds c.args.name.now)
     c.sought_under.ensures

@@ -10,6 +10,7 @@ returns-clause-value c =
     (λ list. (k : DeclKey) → is_among list.items k ≡ is_reader_among shelf (under c.self.inside.postings (word_of key)) k key)
     (λ list. (k : DeclKey) → is_among list.items k ≡ reads (made_of c.args.self.now.decls k) key)
     (λ list are k. are k
-    ∙ readers-are c.self.inside.decls shelf c.self.inside.postings c.self.invariant.shelved c.self.invariant.exact c.self.invariant.sound k key
+    ∙ readers-are c.self.inside.decls shelf c.self.inside.postings c.self.invariant.shelved c.self.invariant.exact c.self.invariant.sound k
+    key
     ∙ ap (λ (s : State). reads (made_of s.decls k) key) c.self.view_is)
     c.readers_of.ensures

@@ -8,7 +8,8 @@ returns-in-Some c =
     let ds = c.self.inside.decls in
     let key = key_at kinds.Bean c.args.class.now in
     c.as_slice.ensures
-    ∙ lent-of ds c.args.class.now (Some c.in-Some.records.now) (made_of ds key) (c.in-Some.ensures.value ∙ c.self.invariant.replaced key) refl
+    ∙ lent-of ds c.args.class.now (Some c.in-Some.records.now) (made_of ds key)
+    (c.in-Some.ensures.value ∙ c.self.invariant.replaced key) refl
     ∙ ap (λ (s : State). records_in s.decls c.args.class.now) c.self.view_is
 
 pub returns-in-None : goal.returns-in-None

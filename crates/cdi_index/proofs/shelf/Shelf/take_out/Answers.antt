@@ -4,12 +4,14 @@ use Rattle.cdi_index.proofs.shelf.Shelf.take_out.Goals as goal
 
 pub returns-in_err-kept-clause-shelf : goal.returns-in_err-kept-clause-shelf
 returns-in_err-kept-clause-shelf c =
-    absurd (never-free (get same_key c.args.self.now.slots) (get nat_eq c.args.self.now.kept) c.requires.owns c.args.key.now c.in_ok-slot.slot
+    absurd (never-free (get same_key c.args.self.now.slots)
+    (get nat_eq c.args.self.now.kept) c.requires.owns c.args.key.now c.in_ok-slot.slot
     (sym c.in_ok-slot.ensures.value) (sym c.in_err-kept.ensures.value))
 
 pub returns-in_err-kept-clause-stored : goal.returns-in_err-kept-clause-stored
 returns-in_err-kept-clause-stored c k =
-    absurd (never-free (get same_key c.args.self.now.slots) (get nat_eq c.args.self.now.kept) c.requires.owns c.args.key.now c.in_ok-slot.slot
+    absurd (never-free (get same_key c.args.self.now.slots)
+    (get nat_eq c.args.self.now.kept) c.requires.owns c.args.key.now c.in_ok-slot.slot
     (sym c.in_ok-slot.ensures.value) (sym c.in_err-kept.ensures.value))
 
 pub returns-clause-shelf : goal.returns-clause-shelf

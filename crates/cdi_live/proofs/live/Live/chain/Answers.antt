@@ -17,7 +17,8 @@ invariant_of-self-2 c =
     wanted-place ds c.in_ok-names.ensures.distinct class place ∙ c.in_ok-names.ensures.there in
     record {
       default = c.self.invariant.default;
-      kept = kept-with-chain ds c.self.inside.memos c.evaluate_chain.new.chains class place c.in_ok-names.names wanted c.in_ok-names.ensures.kept
+      kept = kept-with-chain ds c.self.inside.memos c.evaluate_chain.new.chains class place c.in_ok-names.names wanted
+          c.in_ok-names.ensures.kept
           c.in_ok-names.ensures.chain c.self.invariant.kept;
       staged = tt;
     }
@@ -31,7 +32,8 @@ returns-clause-kept c =
     let wanted : is_wanted ds (ChainKey class place) ≡ true =
     wanted-place ds c.in_ok-names.ensures.distinct class place ∙ c.in_ok-names.ensures.there in
     let new : Memos = record { choices = memos.choices; chains = c.evaluate_chain.new.chains; events = memos.events } in
-    subst (λ (s : State). keeping (knows_in new) c.evaluate_chain.new.work ≡ after_key s.decls (ChainKey class place) (kept_in s)) c.self.view_is
+    subst (λ (s : State). keeping (knows_in new) c.evaluate_chain.new.work ≡ after_key s.decls (ChainKey class place) (kept_in s))
+    c.self.view_is
     (kept-after ds (knows_in memos) (knows_in new) c.self.inside.work c.evaluate_chain.new.work (ChainKey class place)
     (known-with-one-chain ds memos c.evaluate_chain.new.chains class place c.in_ok-names.names wanted c.in_ok-names.ensures.kept)
     (c.in_default.ensures.known ∙ ap (λ (s : State). knows_in s.memos (ChainKey class place)) (sym c.self.view_is))

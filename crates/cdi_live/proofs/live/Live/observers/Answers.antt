@@ -4,7 +4,8 @@ use Rattle.cdi_live.proofs.live.Live.observers.Goals as goal
 
 pub returns-in-Some-clause-kept : goal.returns-in-Some-clause-kept
 returns-in-Some-clause-kept c =
-    sym (after_known c.args.self.now.decls (EventKey c.args.event_type c.args.quals.now) (kept_in c.args.self.now) (sym c.in-Some.ensures.known))
+    sym (after_known c.args.self.now.decls (EventKey c.args.event_type c.args.quals.now) (kept_in c.args.self.now)
+    (sym c.in-Some.ensures.known))
 
 pub invariant_of-self-2 : goal.invariant_of-self-2
 invariant_of-self-2 c = record {

@@ -6,7 +6,8 @@ use Rattle.cdi_match.proofs.walk.Walk.find.Goals as goal
 
 pub returns-then-insert : goal.returns-then-insert
 returns-then-insert c = λ links ds name at.
-    Meets-new links ds name _ _ c.args.place at c.requires.bound c.requires.kept (not-true _ (sym c.insert.ensures.fresh ∙ c.if-insert.true))
+    Meets-new links ds name _ _ c.args.place at c.requires.bound c.requires.kept
+    (not-true _ (sym c.insert.ensures.fresh ∙ c.if-insert.true))
     c.insert.ensures.set c.put.ensures
 
 pub returns-else-insert : goal.returns-else-insert

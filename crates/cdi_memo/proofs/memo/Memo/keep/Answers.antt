@@ -10,7 +10,8 @@ invariant_of-self-then-branch g c =
     let old = answers_in c.self.inside.answers.entries in
     let new = turned (is_kept g.Q.PartialEq.eq old (c.args.name, c.args.part)) c.in_ok-keep_in.field-0 c.in_ok-keep_in.ensures.more
     ∙ ap not c.if-branch.true in
-    let more = count-more g.Q.PartialEq.eq g.met.Q.Eq.laws c.args.name c.args.part c.args.answer old (answers_in c.keep_in.new.answers.entries)
+    let more = count-more g.Q.PartialEq.eq g.met.Q.Eq.laws c.args.name c.args.part c.args.answer old
+    (answers_in c.keep_in.new.answers.entries)
     once (c.in_ok-keep_in.ensures.once once) c.in_ok-keep_in.ensures.ok new in
     (omega (arith, more, c.self.invariant.0), c.in_ok-keep_in.ensures.once once, c.in_ok-keep_in.ensures.named c.self.invariant.2)
 
@@ -20,6 +21,7 @@ invariant_of-self-else-branch g c =
     let old = answers_in c.self.inside.answers.entries in
     let put = turned (is_kept g.Q.PartialEq.eq old (c.args.name, c.args.part)) c.in_ok-keep_in.field-0 c.in_ok-keep_in.ensures.more
     ∙ ap not c.if-branch.false in
-    let same = count-put g.Q.PartialEq.eq g.met.Q.Eq.laws c.args.name c.args.part c.args.answer old (answers_in c.keep_in.new.answers.entries)
+    let same = count-put g.Q.PartialEq.eq g.met.Q.Eq.laws c.args.name c.args.part c.args.answer old
+    (answers_in c.keep_in.new.answers.entries)
     once (c.in_ok-keep_in.ensures.once once) c.in_ok-keep_in.ensures.ok put in
     (c.self.invariant.0 ∙ sym same, c.in_ok-keep_in.ensures.once once, c.in_ok-keep_in.ensures.named c.self.invariant.2)

@@ -53,7 +53,8 @@ pub returns-else-index-len-clause-part : goal.returns-else-index-len-clause-part
 returns-else-index-len-clause-part g c =
     let eq = g.Q.PartialEq.eq in
     let long = length-keys_of c.in_ok-parts.parts.now.entries in
-    sym (slice_get_past (keys_of c.in_ok-parts.parts.now.entries) c.args.index (omega (arith, long, c.len.ensures.len, c.if-index-len.false)))
+    sym (slice_get_past (keys_of c.in_ok-parts.parts.now.entries) c.args.index
+    (omega (arith, long, c.len.ensures.len, c.if-index-len.false)))
     ∙ ap (λ o. slice_get (parts_at eq o) c.args.index) c.in_ok-parts.ensures.value
     ∙ ap (λ ps. slice_get ps c.args.index) (parts-seen eq c.self.inside.answers.entries c.args.self.now c.self.view_is c.args.name.now)
 

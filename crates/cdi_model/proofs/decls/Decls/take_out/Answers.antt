@@ -13,7 +13,8 @@ invariant_of-self c =
 
 pub returns-then-remove-clause-found : goal.returns-then-remove-clause-found
 returns-then-remove-clause-found c =
-    sym (found-joined_first c.args.kind c.args.name.now c.self.inside.kept c.self.inside.added (sym c.remove.ensures.found ∙ c.if-remove.true))
+    sym (found-joined_first c.args.kind c.args.name.now c.self.inside.kept c.self.inside.added
+    (sym c.remove.ensures.found ∙ c.if-remove.true))
     ∙ ap (λ ds. is_some (find_decl c.args.kind c.args.name.now ds)) c.self.view_is
 
 pub returns-then-remove-clause-removed : goal.returns-then-remove-clause-removed

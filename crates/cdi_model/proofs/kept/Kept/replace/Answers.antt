@@ -9,7 +9,8 @@ pub returns-in_default-clause-found : goal.returns-in_default-clause-found
 returns-in_default-clause-found c =
     let d = c.args.decl.now.value in
     sym (ap is_some (absent c.self.inside.base c.self.inside.gone c.self.inside.changed c.self.inside.replaced.items c.self.invariant
-    (kind_of d) (name_of_decl d) (same-unmarked c.kind.result (kind_of d) c.name.result.now (name_of_decl d) c.self.inside.base c.self.inside.gone
+    (kind_of d) (name_of_decl d) (same-unmarked c.kind.result (kind_of d) c.name.result.now
+    (name_of_decl d) c.self.inside.base c.self.inside.gone
     None (c.kind.ensures ∙ ap kind_of c.deref.ensures) (c.name.ensures ∙ ap name_of_decl c.deref-2.ensures) c.in_default.ensures)))
     ∙ ap (λ ds. is_some (find_decl (kind_of d) (name_of_decl d) ds)) c.self.view_is
 
@@ -17,7 +18,8 @@ pub invariant_of-self-2 : goal.invariant_of-self-2
 invariant_of-self-2 c =
     let d = c.args.decl.now.value in
     let place = same-unmarked c.kind.result (kind_of d) c.name.result.now (name_of_decl d) c.self.inside.base c.self.inside.gone
-    (Some c.in-Some.place) (c.kind.ensures ∙ ap kind_of c.deref.ensures) (c.name.ensures ∙ ap name_of_decl c.deref-2.ensures) c.in-Some.ensures in
+    (Some c.in-Some.place) (c.kind.ensures ∙ ap kind_of c.deref.ensures)
+    (c.name.ensures ∙ ap name_of_decl c.deref-2.ensures) c.in-Some.ensures in
     let s = stands c.self.inside.base c.self.inside.gone c.self.inside.changed c.self.inside.replaced.items c.self.invariant
     (kind_of d) (name_of_decl d) c.in-Some.place place in
     let within : c.in-Some.place < length c.self.inside.changed =
@@ -37,7 +39,8 @@ returns-clause-found c =
     sym (is_found c.self.inside.base c.self.inside.gone c.self.inside.changed c.self.inside.replaced.items c.self.invariant
     (kind_of d) (name_of_decl d) c.in-Some.place
     (same-unmarked c.kind.result (kind_of d) c.name.result.now (name_of_decl d) c.self.inside.base c.self.inside.gone
-    (Some c.in-Some.place) (c.kind.ensures ∙ ap kind_of c.deref.ensures) (c.name.ensures ∙ ap name_of_decl c.deref-2.ensures) c.in-Some.ensures))
+    (Some c.in-Some.place) (c.kind.ensures ∙ ap kind_of c.deref.ensures)
+    (c.name.ensures ∙ ap name_of_decl c.deref-2.ensures) c.in-Some.ensures))
     ∙ ap (λ ds. is_some (find_decl (kind_of d) (name_of_decl d) ds)) c.self.view_is
 
 pub returns-clause-ok : goal.returns-clause-ok
@@ -47,5 +50,6 @@ returns-clause-ok c =
     ∙ ap (slice_set (changed_by c.self.inside.replaced.items c.self.inside.base) c.in-Some.place) c.in_ok-clone.ensures.cases)
     ∙ replaced c.self.inside.base c.self.inside.gone c.self.inside.changed c.self.inside.replaced.items c.self.invariant d c.in-Some.place
     (same-unmarked c.kind.result (kind_of d) c.name.result.now (name_of_decl d) c.self.inside.base c.self.inside.gone
-    (Some c.in-Some.place) (c.kind.ensures ∙ ap kind_of c.deref.ensures) (c.name.ensures ∙ ap name_of_decl c.deref-2.ensures) c.in-Some.ensures)
+    (Some c.in-Some.place) (c.kind.ensures ∙ ap kind_of c.deref.ensures)
+    (c.name.ensures ∙ ap name_of_decl c.deref-2.ensures) c.in-Some.ensures)
     ∙ ap (λ ds. put_in ds d) c.self.view_is

@@ -10,7 +10,8 @@ returns-then-place-end c =
     let end : length ds ≤ c.len-end.result = omega (arith, size, c.len-end.ensures) in
     let past : length ds ≤ c.first_outside-place.result = omega (arith, end, c.if-place-end.true) in (
       sym c.self.view_is
-          ∙ none-after c.self.inside.place c.first_outside-place.result c.self.inside.gone.now ds past c.first_outside-place.ensures.skipped,
+          ∙ none-after c.self.inside.place c.first_outside-place.result c.self.inside.gone.now ds past
+          c.first_outside-place.ensures.skipped,
       none-left c.len-end.result c.self.inside.gone.now ds end,
     )
 

@@ -19,7 +19,8 @@ returns-clause-was c =
     let first = c.filled.self-inside.first in
     ap (λ marks. is_marked marks (first * 64 + count_trailing_zeros 64 (get_or words first 0)))
     (sym c.self.view_is ∙ ap marks_of (sym c.filled.invariant.same))
-    ∙ lowest-marked words first (omega (arith, c.filled.invariant.begins.sized, c.filled.invariant.begins.within)) (omega arith) (omega arith)
+    ∙ lowest-marked words first (omega (arith, c.filled.invariant.begins.sized, c.filled.invariant.begins.within)) (omega arith)
+    (omega arith)
 
 pub returns-clause-taken : goal.returns-clause-taken
 returns-clause-taken c =

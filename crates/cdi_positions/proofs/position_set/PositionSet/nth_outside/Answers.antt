@@ -21,7 +21,15 @@ returns-then-left-outside-clause-found c =
 pub loop-index-preserved : goal.loop-index-preserved
 loop-index-preserved c =
     let word = get_or c.self.inside.words c.loop-index.index 0 in
-    omega (arith, c.loop-index.invariant, c.if-left-outside.false, ones-le 64 word (omega arith), count-marks_in word (omega arith), count-whole marks_in 64 length-marks_in c.self.inside.words c.loop-index.index (omega arith))
+    omega (
+      arith,
+      c.loop-index.invariant,
+      c.if-left-outside.false,
+      ones-le 64 word (omega arith),
+      count-marks_in word
+          (omega arith),
+      count-whole marks_in 64 length-marks_in c.self.inside.words c.loop-index.index (omega arith),
+    )
 
 pub returns-then-left-self-clause-found : goal.returns-then-left-self-clause-found
 returns-then-left-self-clause-found c =

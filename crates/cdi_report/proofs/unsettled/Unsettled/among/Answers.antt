@@ -4,7 +4,8 @@ use Rattle.cdi_report.proofs.unsettled.Unsettled.among.Goals as goal
 
 pub returns-then-self : goal.returns-then-self
 returns-then-self c =
-    IfOk-weaker c.all_decls.result _ _ (λ list are. are ∙ sym (each-open c.args.self.now c.args.decls.now c.if-self.true)) c.all_decls.ensures
+    IfOk-weaker c.all_decls.result _ _ (λ list are. are ∙ sym (each-open c.args.self.now c.args.decls.now c.if-self.true))
+    c.all_decls.ensures
 
 pub returns : goal.returns
 returns c =

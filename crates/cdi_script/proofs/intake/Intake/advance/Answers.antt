@@ -11,7 +11,8 @@ returns-in_err-end_line-in-Some-clause-tries g c =
     let chunk = c.args.chunk.now in
     let behind = drop (c.in-Some.end + 1) chunk in
     OnErr-from c.from_residual-in_err-end_line-in-Some.result
-    (tries_more_bytes (intake_on c.args.self.now c.args.container.now) (intake_on c.end_line.new.self c.end_line.new.container) _ behind chunk
+    (tries_more_bytes (intake_on c.args.self.now c.args.container.now)
+    (intake_on c.end_line.new.self c.end_line.new.container) _ behind chunk
     (sym (take-append-drop (c.in-Some.end + 1) chunk)
     ∙ ap (λ l. l ++ behind) (CutsAtFeed-taken chunk c.in-Some.end c.in-Some.ensures.first)) c.in_err-end_line-in-Some.ensures.tries)
 

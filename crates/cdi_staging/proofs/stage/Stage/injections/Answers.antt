@@ -18,7 +18,8 @@ loop-position-preserved g c =
     let next : drop n around ≡ item ∷ drop (n + 1) around = drop_more around n item c.loop-position-test.true
     ∙ ap (λ y. y ∷ drop (n + 1) around) (sym c.around-item.is) in
     let test = λ (i : InterceptorDecl). has names i.name in
-    let before : c.loop-position.list ++ injections_around test n (around_in item ∷ rest) ≡ injections_around test 0 (map around_in around) =
+    let before : c.loop-position.list ++ injections_around test n (around_in item ∷ rest) ≡ injections_around test 0
+    (map around_in around) =
     ap (λ list. c.loop-position.list ++ injections_around test n (map around_in list)) (sym next) ∙ c.loop-position.invariant in
     let value : has names item.decl.now.name ≡ c.contains.result =
     sym (c.contains.ensures.value ∙ ap (λ list. has list item.decl.now.name) c.deref.ensures.value) in
@@ -60,5 +61,6 @@ returns g c =
     ∙ injections-named ds bean self.distinct in
     c.in_ok-push_injections-2.ensures
     ∙ ap (λ list. list ++ injections_from ByTarget 0 c.args.class.targets.now) others
-    ∙ ap (λ own. injections_around (surrounds_one ds (sets_of ds (class_bindings ds bean) bean)) 0 (around_of ds) ++ injections_from ByTarget 0 own)
+    ∙ ap (λ own. injections_around (surrounds_one ds (sets_of ds (class_bindings ds bean) bean)) 0
+    (around_of ds) ++ injections_from ByTarget 0 own)
     c.requires.chosen

@@ -6,7 +6,8 @@ pub staged_place-requires-clause-part : goal.staged_place-requires-clause-part
 staged_place-requires-clause-part g c =
     let self = c.args.self.now in
     subst (λ part. IfSome part (IsFireable (g.V.View.kept self.view.now))) (sym c.as_ref.ensures.value)
-    (bean-fired (g.V.View.list self.view.now) (g.V.View.kept self.view.now) c.args.class.bean.now c.requires.declared self.evaluated).construct
+    (bean-fired (g.V.View.list self.view.now)
+    (g.V.View.kept self.view.now) c.args.class.bean.now c.requires.declared self.evaluated).construct
 
 pub staged_place-requires-2-clause-part : goal.staged_place-requires-2-clause-part
 staged_place-requires-2-clause-part g c =

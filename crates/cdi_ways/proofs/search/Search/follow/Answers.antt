@@ -11,5 +11,6 @@ loop-edge-init c =
     record {
       steps = search rules;
       left = λ n. set_mapped (λ positions. positions.now) items c.args.node n _ within;
-      edges = fewer_left items c.args.node (length c.args.self.now.steps.items) _ c.index-positions.result.now within c.index-positions.ensures refl;
+      edges = fewer_left items c.args.node (length c.args.self.now.steps.items) _ c.index-positions.result.now within
+          c.index-positions.ensures refl;
     }

@@ -1,5 +1,5 @@
 //! Folders and files of every sort, whose reads are interrupted.
-use crate::{Disk, Escaped, Form, PathForm, Readings, Sort, read_sources};
+use cdi_sources::{Disk, Escaped, Form, PathForm, Readings, Sort, read_sources};
 use std::alloc::{AllocError, Global};
 use std::cell::Cell;
 use std::io;
