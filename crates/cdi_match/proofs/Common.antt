@@ -35,10 +35,10 @@ pub use Rattle.cdi_match.specs.Bindings.{brought, brought_by, uses_in}
 unfoldable pub use Rattle.cdi_match.specs.Bindings.{brings_type, types_brought, with_brought}
 pub use Rattle.cdi_match.specs.Filling.{as_binding, Values, value_of, with_default, default_of, value_or_default, fill, declared_of}
 pub use Rattle.cdi_match.specs.declared.followers.Links.{Links}
-pub use Rattle.cdi_match.specs.Search.{Adds, Closing, next_of, all_next, is_led_to, Finds, IsClosing, work_of}
+pub use Rattle.cdi_match.specs.Search.{Adds, Closing, next_of, is_led_to}
 pub use Rattle.cdi_match.specs.Stereotypes.{as_stereotype}
 unfoldable pub use Rattle.cdi_match.specs.Stereotypes.{has_stereotype, stereotypes_of}
 pub use Rattle.cdi_match.specs.Order.{in_order}
 pub use Rattle.cdi_match.specs.declared.walk.Walk.{Walk}
-pub use Rattle.cdi_match.specs.Walk.{declared_among, has_mark, IsWalking, Meets, HasMarks, tasks}
+pub use Rattle.cdi_match.specs.Walk.{declared_among, has_mark, HasMarks, HasNames, IsWalking, Meets, tasks}
 pub use Rattle.cdi_match.specs.Covering.{agree_at, agrees_by, AgreesBy, given_name, counted}

@@ -2,17 +2,18 @@
 use Rattle.cdi_match.proofs.Common.{◌≡◌, ◌<◌, ◌+◌, ℕ, zero, suc, Bool, true, false, not, cond, List, [], ◌∷◌, ◌++◌, length, Option, Some}
 use Rattle.cdi_match.proofs.Common.{None, is_some, refl, sym, ◌∙◌, subst, inl, inr, ap, arith, length-append, position, slice_index_or}
 use Rattle.cdi_match.proofs.Common.{slice_set, filter, option_to_list, bytes_eq, or_cases, or_left, or_right, false≢true, both_ways}
-use Rattle.cdi_match.proofs.Common.{same_from_decides, one_text, same_text, HasOneMore, name_of_decl, find_decl, is_of, Decl, Kind, Links}
+use Rattle.cdi_match.proofs.Common.{cases_Bool, same_from_decides, one_text, same_text, HasOneMore, name_of_decl, find_decl, is_of, Decl, Kind, Links}
 use Rattle.cdi_match.proofs.Common.{Walk, ChainFromOne, Steps, has, leads, Adds, Closing, is_led_to, next_of, declared_among, has_mark}
-use Rattle.cdi_match.proofs.Common.{IsWalking, Meets, HasMarks, tasks}
+use Rattle.cdi_match.proofs.Common.{IsWalking, Meets, HasMarks, HasNames, tasks, ◌||◌, ◌&&◌, ◌⊎◌}
 use Rattle.std.proofs.Common.{◌≢◌, option_map, zero-add, slice_get}
 use Rattle.std.proofs.lemmas.{Bool.cases_eq, List.get_or-set_same, List.get_or-set_other, List.length-set, List.Concat.flat_map-append}
 use Rattle.cdi_positions.proofs.MarkLemmas.{length-marked_from, marked_from-none, marked_from-set, marked_from-unset}
 use Rattle.cdi_positions.specs.Marks.{marked_count, marked_from}
 use Rattle.cdi_model.proofs.PositionLemmas.{name-found, one_position, position-found, position-there}
 use Rattle.cdi_model.specs.DeclList.{limit}
-use Rattle.cdi_match.proofs.SearchLemmas.{Adds-again, Adds-new, Closing-all, Closing-step, is_led_to_decides}
-use Rattle.cdi_match.specs.Walk.{has_met, names_at, names_left, next_declared}
+use Rattle.cdi_match.proofs.Chains.{chain_more}
+use Rattle.cdi_match.proofs.SearchLemmas.{Adds-again, Adds-new, Adds-then, Closing-all, Closing-step, is_led_to_decides, one_more-has}
+use Rattle.cdi_match.specs.Walk.{has_met, names_at, names_left, next_declared, TellsMore, Told}
 use Rattle.cdi_match.specs.Search.{kind_of, listed_by}
 use Rattle.cdi_match.specs.declared.followers.Links.TheVariants as links
 
@@ -71,10 +72,6 @@ names-one ds name i xs ys at more = (
       ∙ ap (λ ns. names_at ds more.0 ++ (ns ++ names_at ds more.1)) at,
 )
 
--- one position more where nothing is declared gives none
-names-same : (ds : List Decl) (i : ℕ) (xs ys : List ℕ) → slice_get ds i ≡ None → HasOneMore i xs ys → names_at ds ys ≡ names_at ds xs
-names-same ds i xs ys none more = grind (arith, more.3, more.0, more.1, more.2, flat_map-append, option_map, slice_get)
-
 -- the name that stands at the place of a name is that name
 name-at : (kind : Kind) (ds : List Decl) (name : List ℕ) (i : ℕ) → position (is_of kind name) ds ≡ Some i
     → option_to_list (option_map name_of_decl (slice_get ds i)) ≡ name ∷ []
@@ -120,6 +117,14 @@ HasMarks-set old new i marked put bound has =
       marked_at,
     )
 
+HasNames-set : (which : Links) (ds : List Decl) (name : List ℕ) (old new : Walk) (i : ℕ)
+    → position (is_of (kind_of which) name) ds ≡ Some i → new.marks ≡ slice_set old.marks i true → HasNames which ds old
+    → HasNames which ds new
+HasNames-set which ds name old new i at marked named j h = elim (cases_eq j i) [
+  | inl same ↦ (name, at ∙ ap Some (sym same))
+  | inr other ↦ named j (sym (ap (λ ms. slice_index_or ms j false) marked ∙ marked_at old.marks i j other) ∙ h)
+]
+
 pub Meets-new : (which : Links) (ds : List Decl) (name : List ℕ) (old new : Walk) (i : ℕ)
     → position (is_of (kind_of which) name) ds ≡ Some i → i < limit → HasMarks old → slice_index_or old.marks i false ≡ false
     → new.marks ≡ slice_set old.marks i true → new.left ≡ slice_set old.left i true → Meets which ds (name ∷ []) old new
@@ -139,6 +144,7 @@ Meets-new which ds name old new i at bound has unmarked marked put =
           (ap (has_mark old.marks) at ∙ unmarked)
           (names-one ds name i (marked_from 0 old.left) (marked_from 0 new.left) (name-at kind ds name i at) one));
       kept = HasMarks-set old new i marked put bound;
+      named = HasNames-set which ds name old new i at marked;
       same_tasks =
           let fewer = marking old.marks i within unmarked in
           let marks : length (filter not new.marks) ≡ length (filter not (slice_set old.marks i true)) =
@@ -162,6 +168,7 @@ Meets-again which ds name w i at was =
           (Adds-again name (has_met which ds w) (names_left ds w) (has_met which ds w) (names_left ds w)
           (marked-again kind ds w.marks name found) found refl);
       kept = λ has. has;
+      named = λ named. named;
       same_tasks = refl;
     }
 
@@ -171,7 +178,15 @@ Meets-none which ds w = grind arith
 -- a name is found, and then others
 pub Meets-cons : (which : Links) (ds : List Decl) (name : List ℕ) (names : List (List ℕ)) (a b c : Walk)
     → Meets which ds (name ∷ []) a b → Meets which ds names b c → Meets which ds (name ∷ names) a c
-Meets-cons which ds name names a b c m n = grind (arith, m.adds, n.adds, n.kept, m.kept, n.same_tasks, m.same_tasks, declared-cons)
+Meets-cons which ds name names a b c m n = record {
+  adds = subst (λ all. Adds all (has_met which ds a) (names_left ds a) (has_met which ds c) (names_left ds c))
+      (declared-cons which ds name names)
+      (Adds-then (declared_among which ds (name ∷ [])) (declared_among which ds names) (has_met which ds a) (names_left ds a)
+      (has_met which ds b) (names_left ds b) (has_met which ds c) (names_left ds c) m.adds n.adds);
+  kept = λ has. n.kept (m.kept has);
+  named = λ named. n.named (m.named named);
+  same_tasks = n.same_tasks ∙ m.same_tasks;
+}
 
 -- ---- a walk
 
@@ -198,28 +213,36 @@ still : (which : Links) (ds : List Decl) (starts : List (List ℕ)) (w popped : 
     → Closing (next_declared which ds) (declared_among which ds starts) (has_met which ds popped) (names_left ds w)
 still which ds starts w popped same walking = grind (arith, position)
 
--- what follows it is found
-pub walk-step : (which : Links) (ds : List Decl) (starts : List (List ℕ)) (w popped new : Walk) (p : ℕ) (d : Decl)
-    (names : List (List ℕ)) → IsWalking which ds starts w → popped.marks ≡ w.marks → slice_index_or w.left p false ≡ true
-    → popped.left ≡ slice_set w.left p false → slice_get ds p ≡ Some d
-    → names ≡ next_of which ds (name_of_decl d) → Meets which ds names popped new → IsWalking which ds starts new
-walk-step which ds starts w popped new p d names walking same was taken is follow m =
-    let one : HasOneMore (name_of_decl d) (names_left ds popped) (names_left ds w) =
-    names-one ds (name_of_decl d) p (marked_from 0 popped.left) (marked_from 0 w.left)
-    (ap (λ o. option_to_list (option_map name_of_decl o)) is) (one_taken w popped p was taken) in
-    Closing-step (next_declared which ds) (declared_among which ds starts) (name_of_decl d) (has_met which ds popped)
-    (names_left ds w) (names_left ds popped) (has_met which ds new) (names_left ds new) (still which ds starts w popped same walking) one
-    (subst (λ ns. Adds (declared_among which ds ns) (has_met which ds popped) (names_left ds popped) (has_met which ds new)
-    (names_left ds new)) follow m.adds)
+next-listed : (which : Links) (ds : List Decl) (x : List ℕ) → next_of which ds x ≡ listed_by which (find_decl (kind_of which) x ds)
+next-listed links.Supers ds x = refl
+next-listed other ds x = refl
 
--- nothing is declared there
-pub walk-gone : (which : Links) (ds : List Decl) (starts : List (List ℕ)) (w popped : Walk) (p : ℕ) → IsWalking which ds starts w
-    → popped.marks ≡ w.marks → slice_index_or w.left p false ≡ true → popped.left ≡ slice_set w.left p false → slice_get ds p ≡ None
-    → IsWalking which ds starts popped
-walk-gone which ds starts w popped p walking same was taken none =
-    subst (Closing (next_declared which ds) (declared_among which ds starts) (has_met which ds popped))
-    (names-same ds p (marked_from 0 popped.left) (marked_from 0 w.left) none (one_taken w popped p was taken))
-    (still which ds starts w popped same walking)
+-- what is left has a name
+pub name-left : (which : Links) (ds : List Decl) (w : Walk) (p : ℕ) → HasMarks w → HasNames which ds w
+    → slice_index_or w.left p false ≡ true → (name : List ℕ) × (position (is_of (kind_of which) name) ds ≡ Some p)
+name-left which ds w p has named was = named p (has.within p was)
+
+-- its declaration lists what follows the name
+pub listed-at : (which : Links) (ds : List Decl) (name : List ℕ) (p : ℕ) → position (is_of (kind_of which) name) ds ≡ Some p
+    → listed_by which (slice_get ds p) ≡ next_of which ds name
+listed-at which ds name p at = ap (listed_by which) (position-there (kind_of which) name ds p at) ∙ sym (next-listed which ds name)
+
+name_taken : (which : Links) (ds : List Decl) (name : List ℕ) (w popped : Walk) (p : ℕ)
+    → position (is_of (kind_of which) name) ds ≡ Some p → slice_index_or w.left p false ≡ true
+    → popped.left ≡ slice_set w.left p false → HasOneMore name (names_left ds popped) (names_left ds w)
+name_taken which ds name w popped p at was taken =
+    names-one ds name p (marked_from 0 popped.left) (marked_from 0 w.left) (name-at (kind_of which) ds name p at)
+    (one_taken w popped p was taken)
+
+-- what follows it is found
+pub walk-step : (which : Links) (ds : List Decl) (starts : List (List ℕ)) (w popped new : Walk) (p : ℕ) (name : List ℕ)
+    → position (is_of (kind_of which) name) ds ≡ Some p → IsWalking which ds starts w → popped.marks ≡ w.marks
+    → slice_index_or w.left p false ≡ true → popped.left ≡ slice_set w.left p false
+    → Meets which ds (next_of which ds name) popped new → IsWalking which ds starts new
+walk-step which ds starts w popped new p name at walking same was taken m =
+    Closing-step (next_declared which ds) (declared_among which ds starts) name (has_met which ds popped)
+    (names_left ds w) (names_left ds popped) (has_met which ds new) (names_left ds new) (still which ds starts w popped same walking)
+    (name_taken which ds name w popped p at was taken) m.adds
 
 -- ---- chains to what is declared
 
@@ -244,10 +267,6 @@ among-has which ds (n ∷ ns) y is h = by (is_some (find_decl (kind_of which) n 
           (ap (λ z. is_some (find_decl (kind_of which) z ds)) (one_text n y here) ∙ is))
       | inr there ↦ more there
     ])
-
-next-listed : (which : Links) (ds : List Decl) (x : List ℕ) → next_of which ds x ≡ listed_by which (find_decl (kind_of which) x ds)
-next-listed links.Supers ds x = refl
-next-listed other ds x = refl
 
 listed-none : (which : Links) → listed_by which None ≡ []
 listed-none links.Supers = refl
@@ -315,11 +334,6 @@ led-none which ds starts s none is = by (is_led_to which ds starts s) refl
         let begins = (steps-declared which ds (c.2).0 c.0 s is (c.2).1).1 in
         absurd (false≢true (sym (ap (λ names. has names c.0) none) ∙ among-has which ds starts c.0 begins c.1))
 
--- no chain leads back
-pub back-none : (which : Links) (ds : List Decl) (s : List ℕ) → next_declared which ds s ≡ []
-    → is_led_to which ds (next_of which ds s) s ≡ false
-back-none which ds s none = grind (arith, is_some, led-none, next-undeclared)
-
 -- ---- the first that is declared
 
 among-one : (which : Links) (ds : List Decl) (name : List ℕ) (names : List (List ℕ))
@@ -330,4 +344,130 @@ among-one which ds name names is = rw is refl
 pub Meets-first : (which : Links) (ds : List Decl) (name : List ℕ) (names all : List (List ℕ)) (i : ℕ) (a b c : Walk)
     → position (is_of (kind_of which) name) ds ≡ Some i → declared_among which ds all ≡ name ∷ declared_among which ds names
     → Meets which ds (name ∷ []) a b → Meets which ds names b c → Meets which ds all a c
-Meets-first which ds name names all i a b c at first m n = grind (arith, position-found, is_some, among-one)
+Meets-first which ds name names all i a b c at first m n =
+    let is : is_some (find_decl (kind_of which) name ds) ≡ true = sym (position-found (kind_of which) name ds) ∙ ap is_some at in
+    let both = Meets-cons which ds name names a b c m n in
+    record {
+      adds = subst (λ some. Adds some (has_met which ds a) (names_left ds a) (has_met which ds c) (names_left ds c))
+          (among-one which ds name names is ∙ sym first) both.adds;
+      kept = both.kept;
+      named = both.named;
+      same_tasks = both.same_tasks;
+    }
+
+-- ---- the names that are told
+
+-- a walk from some names, of which some are told
+pub record Tells (which : Links) (ds : List Decl) (starts : List (List ℕ)) (told : List ℕ → Bool) (w : Walk) : Type 0 where
+  pub walking : IsWalking which ds starts w
+  pub kept : HasMarks w
+  pub named : HasNames which ds w
+  pub tells : Told which ds starts w told
+
+-- a walk that has taken nothing
+nothing_taken : (met now named left before : Bool) → before ≡ false → now ≡ (before || named)
+    → left ≡ (met || (named && not before)) → now ≡ true → left ≡ false → ⊥
+nothing_taken met now named left before none finds leaves is gone = grind arith
+
+pub told-start : (which : Links) (ds : List Decl) (starts : List (List ℕ)) (old new : Walk) (told : List ℕ → Bool)
+    → ((o : Option ℕ) → has_mark old.marks o ≡ false) → Meets which ds starts old new
+    → ((s : List ℕ) → has starts s ≡ true → told s ≡ true) → Told which ds starts new told
+told-start which ds starts old new told none m begun = record {
+  begun = begun;
+  closed = λ x s met gone follows. absurd (nothing_taken (has (names_left ds old) x) (has_met which ds new x)
+      (has (declared_among which ds starts) x) (has (names_left ds new) x) (has_met which ds old x)
+      (none (position (is_of (kind_of which) x) ds)) (m.adds.finds x) (m.adds.leaves x) met gone);
+}
+
+-- what was found and taken after one was taken, was so before, or is that one
+taken_before : (met now named left was : Bool) → now ≡ (met || named) → left ≡ (was || (named && not met)) → now ≡ true → left ≡ false
+    → (met ≡ true) × (was ≡ false)
+taken_before true now named left was finds leaves is gone = (refl, grind arith)
+taken_before false now named left was finds leaves is gone = absurd (grind arith)
+
+-- one is taken, and the names that follow it are told
+pub tells-step : (which : Links) (ds : List Decl) (w popped new : Walk) (p : ℕ) (name : List ℕ)
+    → position (is_of (kind_of which) name) ds ≡ Some p → popped.marks ≡ w.marks → slice_index_or w.left p false ≡ true
+    → popped.left ≡ slice_set w.left p false → Meets which ds (next_of which ds name) popped new
+    → TellsMore which ds (next_of which ds name) w new
+tells-step which ds w popped new p name at same was taken m starts told told' h still_told follows_told = record {
+  begun = λ s is. still_told s (h.begun s is);
+  closed = λ x s met gone follows. (
+      let before = taken_before (has_met which ds popped x) (has_met which ds new x) (has (next_declared which ds name) x)
+      (has (names_left ds new) x) (has (names_left ds popped) x) (m.adds.finds x) (m.adds.leaves x) met gone in
+      elim (cases_Bool (bytes_eq name x)) [
+        | inl is ↦ follows_told s (subst (λ n. leads (next_of which ds) n s ≡ true) (sym (one_text name x is)) follows)
+        | inr other ↦ still_told s (h.closed x s
+            (sym (ap (λ ms. has_mark ms (position (is_of (kind_of which) x) ds)) same) ∙ before.0)
+            (one_more-has name (names_left ds popped) (names_left ds w) (name_taken which ds name w popped p at was taken) x
+            ∙ rw (before.1, other) refl)
+            follows)
+      ]);
+}
+
+-- chains lead to the names that follow it
+pub led-step : (which : Links) (ds : List Decl) (starts : List (List ℕ)) (w popped : Walk) (p : ℕ) (name s : List ℕ)
+    → position (is_of (kind_of which) name) ds ≡ Some p → slice_index_or w.left p false ≡ true
+    → popped.left ≡ slice_set w.left p false → IsWalking which ds starts w → has (next_of which ds name) s ≡ true
+    → is_led_to which ds starts s ≡ true
+led-step which ds starts w popped p name s at was taken walking follows =
+    let found : has_met which ds w name ≡ true =
+    walking.taken name (one_more-has name (names_left ds popped) (names_left ds w) (name_taken which ds name w popped p at was taken) name
+    ∙ or_right (has (names_left ds popped) name) _ (or_left (bytes_eq name name) false (same_text name name refl))) in
+    let chain = (is_led_to_decides which ds starts name).0 (walk-sound which ds starts w name walking found) in
+    (is_led_to_decides which ds starts s).1 (chain.0, chain.1, chain_more (leads (next_of which ds)) chain.0 name s chain.2 follows)
+
+pub led-start : (which : Links) (ds : List Decl) (starts : List (List ℕ)) (s : List ℕ) → has starts s ≡ true
+    → is_led_to which ds starts s ≡ true
+led-start which ds starts s h = (is_led_to_decides which ds starts s).1 (s, h, (0, refl))
+
+steps-last : (edge : List ℕ → List ℕ → Bool) (n : ℕ) (x y : List ℕ) → Steps edge (suc n) x y
+    → (u : List ℕ) × Steps edge n x u × (edge u y ≡ true)
+steps-last edge zero x y c = (x, refl, subst (λ z. edge x z ≡ true) c.2 c.1)
+steps-last edge (suc n) x y c = let last = steps-last edge n c.0 y c.2 in (last.0, (c.0, c.1, last.1), last.2)
+
+-- a chain leads to a start, or to what follows a name to which one leads
+led-last : (which : Links) (ds : List Decl) (starts : List (List ℕ)) (s : List ℕ) → is_led_to which ds starts s ≡ true
+    → (has starts s ≡ true) ⊎ ((x : List ℕ) × (is_led_to which ds starts x ≡ true) × (leads (next_of which ds) x s ≡ true))
+led-last which ds starts s h = by ((is_led_to_decides which ds starts s).0 h)
+  where
+    by : ChainFromOne (leads (next_of which ds)) starts s
+        → (has starts s ≡ true) ⊎ ((x : List ℕ) × (is_led_to which ds starts x ≡ true) × (leads (next_of which ds) x s ≡ true))
+    by (x, is, (zero, e)) = inl (subst (λ z. has starts z ≡ true) e is)
+    by (x, is, (suc n, c)) =
+        let last = steps-last (leads (next_of which ds)) n x s c in
+        inr (last.0, (is_led_to_decides which ds starts last.0).1 (x, is, (n, last.1)), last.2)
+
+-- where none is left, all names are told to which chains lead
+pub told-all : (which : Links) (ds : List Decl) (starts : List (List ℕ)) (w : Walk) (told : List ℕ → Bool) (s : List ℕ)
+    → IsWalking which ds starts w → Told which ds starts w told → marked_count w.left ≡ 0 → is_led_to which ds starts s ≡ true
+    → told s ≡ true
+told-all which ds starts w told s walking h empty led = elim (led-last which ds starts s led) [
+  | inl start ↦ h.begun s start
+  | inr last ↦ h.closed last.0 s
+      (walk-all which ds starts w last.0 walking empty (owner which ds last.0 s last.2) ∙ last.1)
+      (ap (λ ps. has (names_at ds ps) last.0) (marked_from-none 0 w.left empty)) last.2
+]
+
+-- and no others, where chains lead to all that are told
+pub told-just : (which : Links) (ds : List Decl) (starts : List (List ℕ)) (w : Walk) (told : List ℕ → Bool)
+    → IsWalking which ds starts w → Told which ds starts w told → marked_count w.left ≡ 0
+    → ((s : List ℕ) → told s ≡ true → is_led_to which ds starts s ≡ true) → (s : List ℕ) → told s ≡ is_led_to which ds starts s
+told-just which ds starts w told walking h empty led s =
+    let decides = is_led_to_decides which ds starts s in
+    same_from_decides (told s) (is_led_to which ds starts s)
+    (λ is. decides.0 (led s is), λ chain. told-all which ds starts w told s walking h empty (decides.1 chain)) decides
+
+-- where no start is declared, chains lead to the starts only
+pub led-only : (which : Links) (ds : List Decl) (starts : List (List ℕ)) (s : List ℕ) → declared_among which ds starts ≡ []
+    → has starts s ≡ is_led_to which ds starts s
+led-only which ds starts s none =
+    let decides = is_led_to_decides which ds starts s in
+    same_from_decides (has starts s) (is_led_to which ds starts s)
+    (λ is. decides.0 (led-start which ds starts s is), λ chain. only (led-last which ds starts s (decides.1 chain))) decides
+  where
+    only : (has starts s ≡ true) ⊎ ((x : List ℕ) × (is_led_to which ds starts x ≡ true) × (leads (next_of which ds) x s ≡ true))
+        → has starts s ≡ true
+    only (inl start) = start
+    only (inr last) = absurd (both_ways (is_led_to which ds starts last.0)
+        (led-none which ds starts last.0 none (owner which ds last.0 s last.2)) last.1)

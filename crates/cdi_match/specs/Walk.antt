@@ -10,6 +10,7 @@ use Rattle.cdi_model.specs.DeclList.{find_decl, is_of, limit}
 use Rattle.cdi_model.specs.declared.decl.Decl.{Decl}
 use Rattle.cdi_match.specs.declared.followers.Links.{Links}
 use Rattle.cdi_match.specs.declared.walk.Walk.{Walk}
+use Rattle.cdi_match.specs.Chain.{has, leads}
 use Rattle.cdi_match.specs.Search.{Adds, Closing, kind_of, next_of}
 
 -- the position is marked, if there is one
@@ -52,6 +53,10 @@ pub record HasMarks (w : Walk) : Type 0 where
   pub left_sized : length w.left ≡ limit
   pub within : (i : ℕ) → is_marked w.left i ≡ true → is_marked w.marks i ≡ true
 
+-- a name of the kind is declared at each position that is marked
+abbrev pub HasNames : Links → List Decl → Walk → Type 0
+HasNames which ds w = (i : ℕ) → is_marked w.marks i ≡ true → (name : List ℕ) × (position (is_of (kind_of which) name) ds ≡ Some i)
+
 -- none is left to be taken
 abbrev pub has_none_left : Walk → Type 0
 has_none_left w = marked_count w.left ≡ 0
@@ -61,4 +66,17 @@ pub record Meets (which : Links) (ds : List Decl) (names : List (List ℕ)) (old
   pub adds : Adds (declared_among which ds names) (has_met which ds old) (names_left ds old) (has_met which ds new)
       (names_left ds new)
   pub kept : HasMarks old → HasMarks new
+  pub named : HasNames which ds old → HasNames which ds new
   pub same_tasks : tasks new ≡ tasks old
+
+-- Told are the starts, and the names that follow those whose declarations a walk has taken.
+pub record Told (which : Links) (ds : List Decl) (starts : List (List ℕ)) (w : Walk) (told : List ℕ → Bool) : Type 0 where
+  pub begun : (s : List ℕ) → has starts s ≡ true → told s ≡ true
+  pub closed : (x s : List ℕ) → has_met which ds w x ≡ true → has (names_left ds w) x ≡ false → leads (next_of which ds) x s ≡ true
+      → told s ≡ true
+
+-- some names more are to be told
+abbrev pub TellsMore : Links → List Decl → List (List ℕ) → Walk → Walk → Type 0
+TellsMore which ds names old new = (starts : List (List ℕ)) (told told' : List ℕ → Bool) → Told which ds starts old told
+    → ((s : List ℕ) → told s ≡ true → told' s ≡ true) → ((s : List ℕ) → has names s ≡ true → told' s ≡ true)
+    → Told which ds starts new told'

@@ -6,8 +6,7 @@ ghost use Rattle.cdi_match.specs.Chain.{Circle};
 ghost use Rattle.cdi_match.specs.Locality.{EditsKeepBindings};
 
 use crate::followers::Links;
-use crate::search::{in_order, reached};
-use crate::walk::reaches_itself;
+use crate::walk::{in_order, leads_on, reached};
 use cdi_model::{Decl, Decls, Kind, Name, Qual};
 use std::alloc::{AllocError, Global};
 
@@ -64,7 +63,7 @@ pub fn brings_itself(decls: &Decls, name: &Name) -> bool
     ensures value { result ≡ brings_itself decls.now name.now }
     ensures meaning { IsTrue result ↔ Circle (brings decls.now) name.now }
 {
-    reaches_itself(decls, Links::Bindings, name)
+    leads_on(decls, Links::Bindings, name, name)
 }
 
 /// The uses that the declaration of a binding type declares: none where it is not declared. It takes no memory.

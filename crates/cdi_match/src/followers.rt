@@ -51,8 +51,19 @@ impl<'a> Model for Followers<'a> {
 }
 
 impl<'a> Followers<'a> {
+    /// Some names.
+    pub(crate) fn of_names(names: &'a [Name]) -> Followers<'a>
+        ensures { result ≡ names.now }
+    {
+        Followers {
+            first: None,
+            names,
+            uses: &[],
+        }
+    }
+
     /// What a declaration lists, if there is one.
-    fn of(links: Links, decl: Option<&'a Decl>) -> Followers<'a>
+    pub(crate) fn of(links: Links, decl: Option<&'a Decl>) -> Followers<'a>
         ensures { result ≡ listed_by links (option_copied decl.entry) }
     {
         let mut followers = Followers {

@@ -1,20 +1,27 @@
-//! The search for declared names to which chains lead, which takes no memory.
-ghost use Rattle.std.specs.Prelude.{◌≡◌, ◌<◌, ◌∷◌, [], List, ℕ, Option, Some, Bool, true, false, position, IfSome, IfNone};
+//! The search for the names to which chains lead. It keeps positions of declarations, and takes no memory for them.
+ghost use Rattle.std.specs.Prelude.{◌≡◌, ◌<◌, ◌∷◌, ◌||◌, [], List, ℕ, Option, Some, Bool, true, false, position, IfOk, OnOk};
+ghost use Rattle.std.specs.Prelude.{IfSome, IfNone};
+ghost use Rattle.std.specs.BTreeSet.{contains};
+ghost use Rattle.std.specs.List.Sorted.{IsStrictlySortedBy};
+ghost use Rattle.cdi_model.specs.Bytes.{byte_order};
 ghost use Rattle.cdi_model.specs.declared.decl.Decl.{Decl as AnyDecl};
 ghost use Rattle.cdi_model.specs.DeclList.{is_of, limit};
+ghost use Rattle.cdi_match.specs.Chain.{has};
 ghost use Rattle.cdi_match.specs.declared.followers.Links.{Links as AnyLinks};
 ghost use Rattle.cdi_match.specs.Search.{is_led_to, kind_of, next_of};
-ghost use Rattle.cdi_match.specs.Walk.{declared_among, has_mark, has_none_left, tasks, HasMarks, IsWalking};
-ghost use Rattle.cdi_match.specs.Walk.{Meets};
+ghost use Rattle.cdi_match.specs.Walk.{declared_among, has_mark, has_none_left, tasks, HasMarks, HasNames, IsWalking, Meets};
+ghost use Rattle.cdi_match.specs.Walk.{TellsMore, Told};
 
 use crate::followers::{Followers, Links, following};
 use cdi_model::{Decls, Name};
 use cdi_positions::{PositionQueue, PositionSet};
+use std::alloc::{AllocError, Global};
+use std::collections::BTreeSet;
 
 /// The declarations that were found, and those of them that are left to be taken, by their positions.
 #[derive(Drop)]
 pub(crate) struct Walk {
-    pub(crate) marks: PositionSet,
+    marks: PositionSet,
     left: PositionQueue,
 }
 
@@ -36,6 +43,9 @@ impl Walk {
         ensures none { IfNone result (declared_among links decls.now names.entry ≡ []) }
         ensures walking { IfSome result (λ walk. IsWalking links decls.now names.entry walk) }
         ensures kept { IfSome result (λ walk. HasMarks walk) }
+        ensures named { IfSome result (λ walk. HasNames links decls.now walk) }
+        ensures told { IfSome result (λ walk. (told : List ℕ → Bool)
+            → ((s : List ℕ) → has names.entry s ≡ true → told s ≡ true) → Told links decls.now names.entry walk told) }
     {
         let mut names = names;
         let first = first_declared(decls, links, &mut names)?;
@@ -77,23 +87,25 @@ impl Walk {
         }
     }
 
-    /// Takes one of those that are left, and finds what follows it. Whether there was one.
-    fn take_one(&mut self, decls: &Decls, links: Links) -> bool
-        requires { HasMarks self.old }
+    /// Takes one of those that are left, and finds what it lists: these names, if there was one.
+    fn take_one<'a>(&mut self, decls: &'a Decls, links: Links) -> Option<Followers<'a>>
+        requires kept { HasMarks self.old }
+        requires named { HasNames links decls.now self.old }
         ensures walking { (starts : List (List ℕ)) → IsWalking links decls.now starts self.old
             → IsWalking links decls.now starts self.new }
         ensures kept { HasMarks self.new }
-        ensures less { result ≡ true → tasks self.new < tasks self.old }
-        ensures end { result ≡ false → has_none_left self.old }
-        ensures same { result ≡ false → self.new ≡ self.old }
+        ensures named { HasNames links decls.now self.new }
+        ensures less { IfSome result (λ names. tasks self.new < tasks self.old) }
+        ensures led { IfSome result (λ names. (starts : List (List ℕ)) → IsWalking links decls.now starts self.old
+            → (s : List ℕ) → has names s ≡ true → is_led_to links decls.now starts s ≡ true) }
+        ensures told { IfSome result (λ names. TellsMore links decls.now names self.old self.new) }
+        ensures end { IfNone result (has_none_left self.old) }
+        ensures same { IfNone result (self.new ≡ self.old) }
     {
-        let Some(position) = self.left.take() else {
-            return false;
-        };
-        if let Some(decl) = decls.at(position) {
-            self.add_all(decls, links, following(decls, links, decl.name()));
-        }
-        true
+        let position = self.left.take()?;
+        let decl = decls.at(position);
+        self.add_all(decls, links, Followers::of(links, decl));
+        Some(Followers::of(links, decl))
     }
 }
 
@@ -112,20 +124,70 @@ fn first_declared(decls: &Decls, links: Links, names: &mut Followers<'_>) -> Opt
     None
 }
 
-/// Whether a chain of one link or more leads from a name back to it. It takes no memory.
-pub(crate) fn reaches_itself(decls: &Decls, links: Links, name: &Name) -> bool
-    ensures { result ≡ is_led_to links decls.now (next_of links decls.now name.now) name.now }
+/// Whether a chain of one link or more leads from a name to another. It takes no memory.
+pub(crate) fn leads_on(decls: &Decls, links: Links, start: &Name, goal: &Name) -> bool
+    ensures { result ≡ is_led_to links decls.now (next_of links decls.now start.now) goal.now }
 {
-    let Some(mut walk) = Walk::from(decls, links, following(decls, links, name)) else {
+    if has_name(following(decls, links, start), goal) {
+        return true;
+    }
+    let Some(mut walk) = Walk::from(decls, links, following(decls, links, start)) else {
         return false;
     };
-    let Some(goal) = decls.position(links.kind(), name) else {
-        return false;
-    };
-    'taken: while !walk.marks.contains(goal) {
-        if !walk.take_one(decls, links) {
-            return false;
+    'taken: while let Some(names) = walk.take_one(decls, links) {
+        if has_name(names, goal) {
+            return true;
         }
     }
-    true
+    false
+}
+
+/// Whether a name is among some.
+fn has_name(names: Followers<'_>, goal: &Name) -> bool
+    ensures { result ≡ has names.entry goal.now }
+{
+    for name in names {
+        if *name == *goal {
+            return true;
+        }
+    }
+    false
+}
+
+/// The names to which chains lead from some names, these included. It takes memory for them.
+pub(crate) fn reached(
+    alloc: Global,
+    decls: &Decls,
+    links: Links,
+    starts: &[Name],
+) -> Result<BTreeSet<Name>, AllocError>
+    ensures { IfOk result (λ found. (s : List ℕ) → contains byte_order found s ≡ is_led_to links decls.now starts.now s) }
+{
+    let mut found = BTreeSet::new(alloc);
+    add_names(Followers::of_names(starts), &mut found)?;
+    let Some(mut walk) = Walk::from(decls, links, Followers::of_names(starts)) else {
+        return Ok(found);
+    };
+    'taken: while let Some(names) = walk.take_one(decls, links) {
+        add_names(names, &mut found)?;
+    }
+    Ok(found)
+}
+
+/// Adds some names to those that were found.
+fn add_names(names: Followers<'_>, found: &mut BTreeSet<Name>) -> Result<(), AllocError>
+    ensures { OnOk result ((s : List ℕ) → contains byte_order found.new s ≡ (contains byte_order found.old s || has names.entry s)) }
+{
+    for name in names {
+        found.insert(*name)?;
+    }
+    Ok(())
+}
+
+/// The names of a set, in order. It takes memory where there are some.
+pub fn in_order(alloc: Global, names: BTreeSet<Name>) -> Result<Vec<Name>, AllocError>
+    ensures value { IfOk result (λ list. list.items ≡ names.keys) }
+    ensures order { IsStrictlySortedBy byte_order names.keys }
+{
+    names.into_iter().collect(alloc)
 }

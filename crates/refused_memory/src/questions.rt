@@ -157,9 +157,7 @@ fn ask(alloc: Global, asked: &Asked, question: Question) -> Result<bool, Error> 
     let decls = &asked.deployed.decls;
     match question {
         Closure(text, wanted) => has_types(alloc, decls, text, wanted),
-        IsType(text, other, wanted) => {
-            Ok(is_type(alloc, decls, name(text)?, name(other)?)? == wanted)
-        }
+        IsType(text, other, wanted) => Ok(is_type(decls, name(text)?, name(other)?) == wanted),
         Fill(text, wanted) => fills(alloc, decls, text, wanted),
         OfBeans(question) => has_answer(alloc, &asked.deployed, question),
         OfChains(question) => has_answer_of_chains(alloc, &asked.audited, question),
