@@ -137,19 +137,7 @@ history_counts : (old new : State) (history : History) → LegalHistory old hist
     → new.counts ≡ counts_of old.decls old.counts history
 history_counts old new [] h = ap (λ s. s.counts) h
 history_counts old new (step ∷ steps) h =
-    grind (
-      arith,
-      history_counts h.0 new steps h.2,
-      h.0,
-      h.2,
-      h.0.counts,
-      step.command,
-      step.answer,
-      h.1.answered,
-      old.decls,
-      step_edits,
-      step_counts,
-    )
+    grind (arith, history_counts h.0 new steps h.2, h.0, h.2, h.0.counts, h.1.answered, step_edits, step_counts)
 
 pub counts_accepted_edits : (history : History) → CountsAcceptedEdits history
 counts_accepted_edits history book state h = history_counts (empty book) state history h

@@ -58,8 +58,6 @@ readied_with : (live : Live) (next : Staged) (u : Unsettled) (staged : Option St
 readied_with live next u staged r =
     grind (
       arith,
-      r.draft,
-      r.keys,
       r.edited,
       r.concerned.moved,
       r.concerned.by.edited,
@@ -67,7 +65,6 @@ readied_with live next u staged r =
       r.concerned.by.types,
       r.concerned.by.events,
       r.concerned.by.classes,
-      r.concerned.keys,
       r.staged,
       r.looked,
       r.named,

@@ -22,20 +22,7 @@ or-assoc (Some n) y z = refl
 pub next-gives : (ds : List Decl) (old new : Gained) (bean : BeanDecl) (rest all : List BeanDecl) → AddsGained ds bean old new
     → GivesWith ds old (bean ∷ rest) all → GivesWith ds new rest all
 next-gives ds old new bean rest all adds gives =
-    grind (
-      arith,
-      adds.name,
-      old.name,
-      gives.name,
-      adds.declared,
-      old.declared.items,
-      bean.attributes.qualifiers,
-      gives.declared,
-      adds.last,
-      gives.last,
-      or-assoc,
-      append_assoc,
-    )
+    grind (arith, adds.name, gives.name, adds.declared, gives.declared, adds.last, gives.last, or-assoc, append_assoc)
 
 pub next-gives-place : (ds : List Decl) (old new : Gained) (place : ℕ) (places more : List ℕ) (all : List BeanDecl)
     → ((bean : BeanDecl) → IsPlace ds place bean → AddsGained ds bean old new) → places ≡ place ∷ more

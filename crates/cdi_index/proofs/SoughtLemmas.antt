@@ -121,19 +121,7 @@ none-bound (u ∷ us) t = none-bound us t
 none-of-records : (own : List Effective) (t : List ℕ) → words_have (flat_map words_of_record own) (word_at reasons.Observes t) ≡ false
 none-of-records [] t = refl
 none-of-records (x ∷ own) t =
-    grind (
-      arith,
-      none-of-records own t,
-      x.types,
-      x.name,
-      x.qualifiers,
-      x.bindings,
-      words-append,
-      none-typed,
-      none-named,
-      none-used,
-      none-bound,
-    )
+    grind (arith, none-of-records own t, words-append, none-typed, none-named, none-used, none-bound)
 
 -- what a declaration names has no word of what observer methods observe
 none-in : (m : Mention) (t : List ℕ) → words_have (words_named_in m) (word_at reasons.Observes t) ≡ false

@@ -87,15 +87,4 @@ pub chains-between : (sides : Sides) → IsBetween sides → AreDistinct sides.i
     → goes_by_class sides.index.now.decls sides.next.now m classes class place
     ≡ not (stays sides.index.now.decls sides.next.now class place)
 chains-between sides between distinct apart m wanted classes are class place kept =
-    grind (
-      arith,
-      sides.index.now.decls,
-      between.edited.edits,
-      sides.affected.now,
-      sides.edited.now,
-      between.edited.decls,
-      between.edited.keys,
-      between.told,
-      going,
-      parts-kept,
-    )
+    grind (arith, between.edited.decls, between.edited.keys, between.told, going, parts-kept)

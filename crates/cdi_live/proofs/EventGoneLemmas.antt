@@ -184,14 +184,4 @@ pub gone-between : (sides : Sides) → IsBetween sides → AreDistinct sides.ind
     || list_any (is_dropped_at sides.index.now.decls drops t us) sides.edited.now)
     ≡ not (event_stays sides.index.now.decls sides.next.now t us)
 gone-between sides between distinct apart m wanted drops are types suspects t us kept =
-    grind (
-      arith,
-      sides.index.now.decls,
-      between.edited.edits,
-      sides.affected.now,
-      sides.edited.now,
-      between.edited.decls,
-      between.edited.keys,
-      between.told,
-      goes,
-    )
+    grind (arith, between.edited.decls, between.edited.keys, between.told, goes)

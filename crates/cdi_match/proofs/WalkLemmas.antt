@@ -101,12 +101,8 @@ HasMarks-set : (old new : Walk) (i : ℕ) → new.marks ≡ slice_set old.marks 
 HasMarks-set old new i marked put bound has =
     grind (
       arith,
-      old.marks,
       has.sized,
-      old.left,
       has.left_sized,
-      new.left,
-      new.marks,
       has.within,
       length,
       length-set,

@@ -71,19 +71,7 @@ pub stands_advances : (setting : Setting) (start now : Option (List ℕ)) (s t :
     → Stands setting start now s given
     → Advances s t bytes → Stands setting start now t (given ++ bytes)
 stands_advances setting start now s t given bytes h a =
-    grind (
-      arith,
-      t.runner,
-      s.runner,
-      h.printed,
-      a.runs,
-      h.keeps,
-      a.keeps,
-      complete_commands-append,
-      printed_runs,
-      mode_of-append,
-      begun_from-append,
-    )
+    grind (arith, h.printed, a.runs, h.keeps, a.keeps, complete_commands-append, printed_runs, mode_of-append, begun_from-append)
 
 pub printed_all : (setting : Setting) (start now then : Option (List ℕ)) (r : RunnerOn) (cs : List Command) (out : List ℕ)
     → Printed setting start now r cs → out ≡ r.out → Appends now then out → WroteAll setting start then cs r.container

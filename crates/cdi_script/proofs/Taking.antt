@@ -64,21 +64,7 @@ pub ends : (old mid new : IntakeOn) (piece kept : List ℕ) → NoFeed piece →
     → mid.mode ≡ old.mode → mid.line ≡ []
     → TakesLine mid new kept → Advances old new (piece ++ feed ∷ [])
 ends old mid new piece kept no_feed is same stays none h =
-    grind (
-      arith,
-      mid.mode,
-      old.line,
-      new.runner,
-      h.runs,
-      h.line,
-      h.mode,
-      serves_serving,
-      serves_more,
-      ended_from-feed,
-      append-nil,
-      begun_from-feed,
-      serves_itself,
-    )
+    grind (arith, h.runs, h.line, h.mode, serves_serving, serves_more, ended_from-feed, append-nil, begun_from-feed, serves_itself)
 
 last_of : (line : List ℕ) → (line ≡ [] → ⊥) → last_line line ≡ ended_from line (feed ∷ [])
 last_of [] h = absurd (h refl)

@@ -1,5 +1,5 @@
-//! The shortest circles through nodes of small graphs.
-use cdi_ways::{Edge, Ways};
+//! The shortest circles through nodes of small graphs, and which nodes are on circles.
+use cdi_ways::{Edge, Ways, on_circles};
 use std::alloc::{AllocError, Global};
 use std::test::Fail;
 
@@ -99,5 +99,44 @@ fn a_ring(rt: HostRuntime) -> Result<(), Fail> {
     assert!(rt; way.len() == 1_000);
     assert!(rt; way.first() == Some(&500));
     assert!(rt; way.last() == Some(&501));
+    Ok(())
+}
+
+/// Whether these marks tell of each node that an edge leaves whether it is on a circle.
+fn marks(alloc: Global, edges: &[Edge], wanted: &[bool]) -> Result<bool, AllocError> {
+    let marks = on_circles(alloc, edges)?;
+    Ok(marks.as_slice() == wanted)
+}
+
+#[test]
+fn nodes_on_circles(rt: HostRuntime) -> Result<(), Fail> {
+    let own = [edge(0, 1), edge(1, 1), edge(1, 2)];
+    assert!(rt; marks(rt.alloc(), &own, &[false, true])?);
+    let bridge = [edge(0, 1), edge(1, 0), edge(1, 2), edge(2, 3), edge(3, 2)];
+    assert!(rt; marks(rt.alloc(), &bridge, &[true, true, true, true])?);
+    let between = [
+        edge(4, 3),
+        edge(3, 4),
+        edge(3, 2),
+        edge(2, 1),
+        edge(1, 0),
+        edge(0, 1),
+    ];
+    assert!(rt; marks(rt.alloc(), &between, &[true, true, false, true, true])?);
+    assert!(rt; marks(rt.alloc(), &[], &[])?);
+    Ok(())
+}
+
+#[test]
+fn nodes_of_a_ring_and_of_a_chain_from_it(rt: HostRuntime) -> Result<(), Fail> {
+    let mut edges = ring(rt.alloc(), LAST)?;
+    let mut wanted = Vec::new(rt.alloc());
+    for node in LAST..3 * LAST {
+        edges.push(edge(node, node + 1))?;
+    }
+    for node in 0..3 * LAST {
+        wanted.push(node <= LAST)?;
+    }
+    assert!(rt; marks(rt.alloc(), &edges, &wanted)?);
     Ok(())
 }

@@ -18,7 +18,7 @@ use Rattle.cdi_validate.specs.{Together.next_in}
 
 -- ---- what is in a list
 
-abbrev Has : {X : Type 0} → List X → X → Type 0
+abbrev pub Has : {X : Type 0} → List X → X → Type 0
 Has [] x = ⊥
 Has (y ∷ ys) x = (y ≡ x) ⊎ Has ys x
 
@@ -37,14 +37,14 @@ has-parts (v ∷ xs) ys x (inl e) = inl (inl e)
 has-parts (v ∷ xs) ys x (inr h) = grind (arith, has-parts xs ys x h)
 
 -- in what is made of each element
-flat-from : {X Y : Type 0} (f : X → List Y) (xs : List X) (y : Y) → Has (flat_map f xs) y → (x : X) × Has xs x × Has (f x) y
+pub flat-from : {X Y : Type 0} (f : X → List Y) (xs : List X) (y : Y) → Has (flat_map f xs) y → (x : X) × Has xs x × Has (f x) y
 flat-from f [] y h = absurd h
 flat-from f (x ∷ xs) y h = elim (has-parts (f x) (flat_map f xs) y h) [
   | inl here ↦ (x, inl refl, here)
   | inr there ↦ let (z, at, of_z) = flat-from f xs y there in (z, inr at, of_z)
 ]
 
-flat-to : {X Y : Type 0} (f : X → List Y) (xs : List X) (x : X) (y : Y) → Has xs x → Has (f x) y → Has (flat_map f xs) y
+pub flat-to : {X Y : Type 0} (f : X → List Y) (xs : List X) (x : X) (y : Y) → Has xs x → Has (f x) y → Has (flat_map f xs) y
 flat-to f [] x y h of_x = absurd h
 flat-to f (v ∷ xs) x y (inl e) of_x = has-front (f v) (flat_map f xs) y (subst (λ w. Has (f w) y) (sym e) of_x)
 flat-to f (v ∷ xs) x y (inr h) of_x = has-behind (f v) (flat_map f xs) y (flat-to f xs x y h of_x)
@@ -64,18 +64,18 @@ kept-to {X = X} p (v ∷ xs) x (inr h) passes = grind (arith, kept-to p xs x h p
 flat-kept : {X Y : Type 0} (f : X → List Y) (p : X → Bool) (xs : List X) (y : Y) → Has (flat_map f (filter p xs)) y → Has (flat_map f xs) y
 flat-kept f p xs y h = grind (arith, flat-from, flat-to, kept-from)
 
-mapped-from : {X Y : Type 0} (f : X → Y) (xs : List X) (y : Y) → Has (map f xs) y → (x : X) × Has xs x × (f x ≡ y)
+pub mapped-from : {X Y : Type 0} (f : X → Y) (xs : List X) (y : Y) → Has (map f xs) y → (x : X) × Has xs x × (f x ≡ y)
 mapped-from f [] y h = absurd h
 mapped-from f (x ∷ xs) y (inl e) = (x, inl refl, e)
 mapped-from f (x ∷ xs) y (inr h) = let (z, at, is) = mapped-from f xs y h in (z, inr at, is)
 
-mapped-to : {X Y : Type 0} (f : X → Y) (xs : List X) (x : X) → Has xs x → Has (map f xs) (f x)
+pub mapped-to : {X Y : Type 0} (f : X → Y) (xs : List X) (x : X) → Has xs x → Has (map f xs) (f x)
 mapped-to f [] x h = absurd h
 mapped-to f (v ∷ xs) x (inl e) = inl (ap f e)
 mapped-to f (v ∷ xs) x (inr h) = inr (mapped-to f xs x h)
 
 -- the place at which it stands
-at-place : {X : Type 0} (xs : List X) (x : X) → Has xs x → (k : ℕ) × (slice_get xs k ≡ Some x)
+pub at-place : {X : Type 0} (xs : List X) (x : X) → Has xs x → (k : ℕ) × (slice_get xs k ≡ Some x)
 at-place [] x h = absurd h
 at-place (v ∷ xs) x (inl e) = (0, ap Some e)
 at-place (v ∷ xs) x (inr h) = let (k, at) = at-place xs x h in (suc k, at)
@@ -86,14 +86,14 @@ all-has P (v ∷ xs) x all (inl e) = subst P e all.0
 all-has P (v ∷ xs) x all (inr h) = all-has P xs x all.1 h
 
 -- a name among some
-named-from : (names : List (List ℕ)) (x : List ℕ) → has names x ≡ true → Has names x
+pub named-from : (names : List (List ℕ)) (x : List ℕ) → has names x ≡ true → Has names x
 named-from [] x h = absurd (false≢true h)
 named-from (n ∷ ns) x h = elim (or_cases (bytes_eq n x) (has ns x) h) [
   | inl here ↦ inl (one_text n x here)
   | inr there ↦ inr (named-from ns x there)
 ]
 
-named-to : (names : List (List ℕ)) (x : List ℕ) → Has names x → has names x ≡ true
+pub named-to : (names : List (List ℕ)) (x : List ℕ) → Has names x → has names x ≡ true
 named-to [] x h = absurd h
 named-to (n ∷ ns) x (inl e) = or_left (bytes_eq n x) (has ns x) (same_text n x e)
 named-to (n ∷ ns) x (inr h) = or_right (bytes_eq n x) (has ns x) (named-to ns x h)
@@ -101,18 +101,18 @@ named-to (n ∷ ns) x (inr h) = or_right (bytes_eq n x) (has ns x) (named-to ns 
 -- ---- edges
 
 -- an edge is between two of some beans, and one of their needs gives it
-record IsEdge (nodes : List (List ℕ)) (all : List Need) (x y : List ℕ) : Type 0 where
-  start : Has nodes x
-  end : Has nodes y
-  need : Need
-  among : Has all need
-  first : need.0 ≡ x
-  needs : Has need.1 y
+pub record IsEdge (nodes : List (List ℕ)) (all : List Need) (x y : List ℕ) : Type 0 where
+  pub start : Has nodes x
+  pub end : Has nodes y
+  pub need : Need
+  pub among : Has all need
+  pub first : need.0 ≡ x
+  pub needs : Has need.1 y
 
 of-text : (need : Need) (x y : List ℕ) → Has (cond (bytes_eq need.0 x) need.1 []) y → (need.0 ≡ x) × Has need.1 y
 of-text need x y h = grind (arith, need.0, need.1, one_text)
 
-edge-from : (nodes : List (List ℕ)) (all : List Need) (x y : List ℕ) → leads (between nodes all) x y ≡ true → IsEdge nodes all x y
+pub edge-from : (nodes : List (List ℕ)) (all : List Need) (x y : List ℕ) → leads (between nodes all) x y ≡ true → IsEdge nodes all x y
 edge-from nodes all x y h = by (has nodes x) refl h
   where
     by : (b : Bool) → has nodes x ≡ b → has (cond b (filter (has nodes) (needed_by all x)) []) y ≡ true → IsEdge nodes all x y
@@ -130,7 +130,7 @@ edge-from nodes all x y h = by (has nodes x) refl h
         }
     by false e h = absurd (false≢true h)
 
-edge-to : (nodes : List (List ℕ)) (all : List Need) (x y : List ℕ) → IsEdge nodes all x y → leads (between nodes all) x y ≡ true
+pub edge-to : (nodes : List (List ℕ)) (all : List Need) (x y : List ℕ) → IsEdge nodes all x y → leads (between nodes all) x y ≡ true
 edge-to nodes all x y edge =
     let need = edge.need in
     let own : Has (cond (bytes_eq need.0 x) need.1 []) y =

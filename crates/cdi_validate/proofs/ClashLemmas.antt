@@ -99,14 +99,14 @@ less-apart : (x y : List ℕ) → y ≡ x → order x y ≡ Less → ⊥
 less-apart x y same less = let no : Less ≡ Equal = sym less ∙ ap (order x) same ∙ tied_itself nat_list_cmp_total x in cc
 
 -- each entry is found by its key
-found-later : (e : List ℕ × Leaders) (es more : List (List ℕ × Leaders)) → AllByRecursion (λ k. order e.0 k ≡ Less) (keys_of more)
+found-later : {V : Type 0} (e : List ℕ × V) (es more : List (List ℕ × V)) → AllByRecursion (λ k. order e.0 k ≡ Less) (keys_of more)
     → AllByRecursion (λ f. lookup (is_at (order f.0)) es ≡ Some f.1) more
     → AllByRecursion (λ f. lookup (is_at (order f.0)) (e ∷ es) ≡ Some f.1) more
 found-later e es [] above all = tt
 found-later e es (f ∷ more) above all =
     grind (arith, found-later e es more above.1 all.1, e.1, f.0, e.0, above.0, all.0, above.1, all.1, at_name, other_text, less-apart)
 
-found-each : (es : List (List ℕ × Leaders)) → IsStrictlySortedBy order (keys_of es)
+pub found-each : {V : Type 0} (es : List (List ℕ × V)) → IsStrictlySortedBy order (keys_of es)
     → AllByRecursion (λ e. lookup (is_at (order e.0)) es ≡ Some e.1) es
 unfolding IsStrictlySortedBy
 found-each [] rise = tt
@@ -131,4 +131,6 @@ each-leads bs es (e ∷ more) led all = (leads-named bs e.0 e.1 (sym all.0 ∙ l
 pub clashes-led : (bs : List Effective) (es : List (List ℕ × Leaders)) → IsStrictlySortedBy order (keys_of es)
     → ((s : List ℕ) → lookup (is_at (order s)) es ≡ leaders_in (named bs s))
     → map (λ e. faults_are.NameClash e.0) (filter (λ e. is_ambiguous (leading e.1)) es) ≡ name_clashes bs
-clashes-led bs es rise led = grind (arith, clashes-each, each-leads, found-each, keys-named)
+clashes-led bs es rise led =
+    clashes-each bs es (each-leads bs es es led (found-each es rise))
+    ∙ ap (λ names. map faults_are.NameClash (filter (λ n. is_ambiguous (chosen_by_name bs n)) names)) (keys-named bs es rise led)

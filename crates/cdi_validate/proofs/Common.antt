@@ -45,7 +45,6 @@ pub use Rattle.cdi_observe.specs.{Answers.answer_to, Wanted.point_named, Wanted.
 unfoldable pub use Rattle.cdi_observe.specs.Around.{names_of_bean}
 pub use Rattle.cdi_observe.proofs.{AroundLemmas.stands-named, FoundLemmas.IsFound}
 pub use Rattle.cdi_observe.proofs.LendingLemmas.{chains-answerable, points-answerable}
-pub use Rattle.cdi_circles.specs.Edges.{Edges, is_on_circle, texts_in, next_in}
 pub use Rattle.cdi_faults.specs.{declared.fault.Fault.Fault, FaultText.text_of_fault}
 unfoldable pub use Rattle.cdi_faults.specs.FaultText.{in_text_order}
 pub use Rattle.cdi_faults.proofs.OrderLemmas.{subjects_in_order}
@@ -54,7 +53,7 @@ pub use Rattle.cdi_subjects.specs.Subjects.{is_ambiguous}
 pub use Rattle.cdi_validate.specs.Twice.{enabled_bean, enabled_beans, faults_of_pairs, faults_of_two, in_line_order, of_pairs, twice}
 pub use Rattle.cdi_validate.specs.{Twice.with_line, Alike.IsAlike, Together.names_by, Together.AreNamesApart, Together.HaveNoClash}
 pub use Rattle.cdi_validate.specs.{Faults.faults_of_code, Faults.LinesRise, Faults.goes_on, Names.leaders_in, Names.AreLed, Names.AreNames}
-pub use Rattle.cdi_validate.specs.{Names.prefix_pairs, Needed.AddsNeeds, Among.faults_together, Among.looks_at_all, Among.has_faults}
+pub use Rattle.cdi_validate.specs.{Names.prefix_pairs, Among.faults_together, Among.looks_at_all, Among.has_faults}
 unfoldable pub use Rattle.cdi_validate.specs.{Twice.specialized_twice, Twice.by_line, Circles.circular, Circles.needs_itself, Faults.faults}
 pub use Rattle.cdi_validate.specs.Linked.{is_first_enabled, specializing, specializing_by, faults_between, faults_of_chains, first_marked}
 pub use Rattle.cdi_validate.specs.Linked.{has_position, is_marked, links_to, KeepsChain}

@@ -9,6 +9,7 @@ pub mod BehindLemmas
 pub mod FoundLemmas
 pub mod NeedLemmas
 pub mod SurroundLemmas
+pub mod NumberLemmas
 pub mod CircleLemmas
 pub mod CirclelessLemmas
 pub mod TwiceLemmas

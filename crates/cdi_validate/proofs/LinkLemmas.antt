@@ -77,22 +77,7 @@ first-shared ds marks others marked (c ∷ cs) ((i, at), more) = grind (arith, f
 kept-two : (ds : List Decl) (k l : BeanChain) (a b : BeanDecl) → KeepsChain ds k a → KeepsChain ds l b
     → faults_of_chains k l ≡ behind_two ds a b
 kept-two ds k l a b of_a of_b =
-    grind (
-      arith,
-      k.behind.items,
-      l.marks.items,
-      of_a.linked,
-      of_b.marked,
-      l.class,
-      of_a.named,
-      a.name,
-      of_b.named,
-      b.name,
-      first-shared,
-      place-within,
-      positions-has,
-      places-behind,
-    )
+    grind (arith, of_a.linked, of_b.marked, of_a.named, of_b.named, first-shared, place-within, positions-has, places-behind)
 
 kept-later : (ds : List Decl) (k : BeanChain) (a : BeanDecl) → KeepsChain ds k a → (ls : List BeanChain) (bs : List BeanDecl)
     → AllZip (KeepsChain ds) ls bs → flat_map (faults_of_chains k) ls ≡ flat_map (behind_two ds a) bs

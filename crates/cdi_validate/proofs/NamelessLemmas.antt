@@ -65,8 +65,6 @@ one-named (b ∷ bs) n apart =
     grind (
       arith,
       one-named bs n (apart-back Differ (enabled_name b) (flat_map enabled_name bs) apart),
-      b.is_enabled,
-      b.name,
       apart-back,
       is_its_name,
       none-named,

@@ -1,15 +1,17 @@
 -- What beans need, as it is found: the dependent beans by their texts, and the edges between them.
 use Rattle.cdi_validate.proofs.Common.{◌≡◌, List, ◌++◌, sym, ap, ◌∙◌, append_assoc, flat_map, Decl, beans, ℕ, Bool, true, false, cond, []}
-use Rattle.cdi_validate.proofs.Common.{◌∷◌, map, filter, refl, AllByRecursion, IsStrictlySortedBy, subst, bytes_eq, filter-append, has}
-use Rattle.cdi_validate.proofs.Common.{keys_of, filter_agree, Edges, BeanId, between, circular, dependents, dependents_by_text}
-use Rattle.cdi_validate.proofs.Common.{needs_itself, ◌⊎◌, append-nil, InterceptorDecl, PointDecl, one_text, text_of_id, Effective}
-use Rattle.cdi_validate.proofs.Common.{is_enabled, stands_around, answer_to, Need, chosen_for, chosen_one, is_dependent, managed_id}
+use Rattle.cdi_validate.proofs.Common.{◌∷◌, map, filter, refl, AllByRecursion, IsStrictlySortedBy, subst, bytes_eq, has}
+use Rattle.cdi_validate.proofs.Common.{keys_of, filter_agree, BeanId, between, circular, dependents, dependents_by_text}
+use Rattle.cdi_validate.proofs.Common.{needs_itself, ◌⊎◌, InterceptorDecl, text_of_id, Effective}
+use Rattle.cdi_validate.proofs.Common.{is_enabled, stands_around, Need, is_dependent, managed_id}
 use Rattle.cdi_validate.proofs.Common.{need_around, ◌||◌, fold, ⊎_elim, is_at, lookup, is_some, or-false, flat_map-append, insert_key}
 use Rattle.cdi_validate.proofs.Common.{byte_order, in_order, in_order-has, in_order-rises, IsStrictlySortedBy-filter, has-by_order}
-use Rattle.cdi_validate.proofs.Common.{or_assoc, or_comm, same_name, Choice, with_dependent, AddsNeeds, arith, next_in}
+use Rattle.cdi_validate.proofs.Common.{or_assoc, or_comm, same_name, with_dependent, arith, get, Option, Some, None, option_to_list}
 use Rattle.std.specs.BTreeMap.{insert_entry}
 use Rattle.std.proofs.lemmas.Map.Made.{is_some-lookup}
 use Rattle.cdi_model.specs.declared.decl.Decl.TheVariants as decls
+use Rattle.cdi_ways.specs.declared.edge.Edge.{Edge}
+use Rattle.cdi_validate.specs.Needed.{edge, edges_by, edges_of, numbers_of, Numbers}
 
 abbrev Entries : Type 0
 Entries = List (List ℕ × BeanId)
@@ -57,7 +59,7 @@ has-by_text bs x =
     ∙ or-false (has (dependents bs) x)
 
 -- a map has what its keys have
-pub has-key : (es : Entries) (x : List ℕ) → is_some (lookup (is_at (byte_order x)) es) ≡ has (keys_of es) x
+pub has-key : {V : Type 0} (es : List (List ℕ × V)) (x : List ℕ) → is_some (lookup (is_at (byte_order x)) es) ≡ has (keys_of es) x
 has-key es x = is_some-lookup (is_at (byte_order x)) es ∙ has-by_order (keys_of es) x
 
 -- ---- in order
@@ -82,6 +84,10 @@ texts-kept : (test : List ℕ → Bool) (es : Entries) → StandAtTexts es
 texts-kept test [] stand = refl
 texts-kept test (e ∷ es) stand = grind (arith, texts-kept test es stand.1, e.0, stand.1, e.1, stand.0)
 
+-- the texts of the dependent beans rise
+pub texts-rise : (bs : List Effective) → IsStrictlySortedBy byte_order (keys_of (dependents_by_text bs))
+texts-rise bs = subst (IsStrictlySortedBy byte_order) (sym (keys-added bs [] [] refl)) (in_order-rises (added [] bs))
+
 -- the texts of the beans that need themselves rise
 pub circular-rise : (ds : List Decl) → IsStrictlySortedBy byte_order (map text_of_id (circular ds))
 unfolding circular
@@ -89,81 +95,52 @@ circular-rise ds =
     let bs = beans ds in
     let es = dependents_by_text bs in
     subst (IsStrictlySortedBy byte_order) (sym (texts-kept (needs_itself ds) es (all-stand bs [] tt)))
-    (IsStrictlySortedBy-filter byte_order (needs_itself ds) (keys_of es)
-    (subst (IsStrictlySortedBy byte_order) (sym (keys-added bs [] [] refl)) (in_order-rises (added [] bs))))
+    (IsStrictlySortedBy-filter byte_order (needs_itself ds) (keys_of es) (texts-rise bs))
 
 -- ---- edges
-
-pub between-append : (nodes : List (List ℕ)) (some more : List Need) (x : List ℕ)
-    → between nodes (some ++ more) x ≡ between nodes some x ++ between nodes more x
-between-append nodes some more x = grind (arith, flat_map-append, filter-append)
 
 -- edges are between beans, in whatever order they stand
 pub between-like : (nodes others : List (List ℕ)) → ((x : List ℕ) → has nodes x ≡ has others x) → (all : List Need) (x : List ℕ)
     → between nodes all x ≡ between others all x
 between-like nodes others same all x = grind (arith, filter_agree)
 
-pub between-none : (nodes : List (List ℕ)) (x : List ℕ) → between nodes [] x ≡ []
-between-none nodes x = grind arith
-
--- an interceptor that is not enabled, or that needs none of some beans, adds no edge between them
-none-around : (ds : List Decl) (nodes : List (List ℕ)) (i : InterceptorDecl) (chosen : List (List ℕ)) (x : List ℕ)
-    → (is_enabled i ≡ false) ⊎ (filter (has nodes) chosen ≡ [])
-    → (others : List Decl) → between nodes (flat_map (need_around ds i chosen) others) x ≡ []
+-- an interceptor that is not enabled, or that needs none of those that have numbers, adds no edge
+pub none-around : (ds : List Decl) (numbers : Numbers) (i : InterceptorDecl) (chosen : List (List ℕ))
+    → (is_enabled i ≡ false) ⊎ (numbers_of numbers chosen ≡ []) → (others : List Decl)
+    → edges_of numbers (flat_map (need_around ds i chosen) others) ≡ []
 unfolding stands_around
-none-around ds nodes i chosen x out [] = between-none nodes x
-none-around ds nodes i chosen x out (other ∷ others) =
-    between-append nodes (need_around ds i chosen other) (flat_map (need_around ds i chosen) others) x
-    ∙ ap (λ ys. ys ++ between nodes (flat_map (need_around ds i chosen) others) x) (by other)
-    ∙ none-around ds nodes i chosen x out others
+none-around ds numbers i chosen out [] = refl
+none-around ds numbers i chosen out (other ∷ others) =
+    flat_map-append (edges_by numbers) (need_around ds i chosen other) (flat_map (need_around ds i chosen) others)
+    ∙ ap (λ es. es ++ edges_of numbers (flat_map (need_around ds i chosen) others)) (by other)
+    ∙ none-around ds numbers i chosen out others
   where
-    left : (a b : Bool) → filter (has nodes) chosen ≡ [] → cond a (filter (has nodes) (cond b chosen [] ++ [])) [] ≡ []
-    left true true none = ap (filter (has nodes)) (append-nil chosen) ∙ none
-    left true false none = refl
-    left false b none = refl
+    left : (o : Option ℕ) → numbers_of numbers chosen ≡ []
+        → flat_map (λ p. map (edge p) (numbers_of numbers chosen)) (option_to_list o) ++ [] ≡ []
+    left None none = refl
+    left (Some p) none = ap (λ qs. (map (edge p) qs ++ []) ++ []) none
 
-    around : (t : Bool) (text : List ℕ) → filter (has nodes) chosen ≡ [] → between nodes (cond t ((text, chosen) ∷ []) []) x ≡ []
-    around true text none = left (has nodes x) (bytes_eq text x) none
-    around false text none = between-none nodes x
+    around : (t : Bool) (text : List ℕ) → numbers_of numbers chosen ≡ [] → edges_of numbers (cond t ((text, chosen) ∷ []) []) ≡ []
+    around true text none = left (get byte_order numbers text) none
+    around false text none = refl
 
-    by : (d : Decl) → between nodes (need_around ds i chosen d) x ≡ []
-    by (decls.Bean d) = ⊎_elim (λ off. rw off (between-none nodes x)) (around (stands_around ds i d) (text_of_id (managed_id d))) out
-    by other = between-none nodes x
+    by : (d : Decl) → edges_of numbers (need_around ds i chosen d) ≡ []
+    by (decls.Bean d) = ⊎_elim (λ off. rw off refl) (around (stands_around ds i d) (text_of_id (managed_id d))) out
+    by other = refl
 
--- so the edges stay as they were
-pub adds-none-around : (ds : List Decl) (nodes : List (List ℕ)) (i : InterceptorDecl) (chosen : List (List ℕ)) (edges : Edges)
-    → (is_enabled i ≡ false) ⊎ (filter (has nodes) chosen ≡ []) → AddsNeeds nodes (flat_map (need_around ds i chosen) ds) edges edges
-adds-none-around ds nodes i chosen edges out x =
-    sym (append-nil (next_in edges x)) ∙ ap (λ ys. next_in edges x ++ ys) (sym (none-around ds nodes i chosen x out ds))
+-- the edges of some needs, and then those of more
+pub edges_of-append : (numbers : Numbers) (some more : List Need)
+    → edges_of numbers (some ++ more) ≡ edges_of numbers some ++ edges_of numbers more
+edges_of-append numbers some more = flat_map-append (edges_by numbers) some more
 
--- those of some needs, and then those of more
-pub adds_more : (nodes : List (List ℕ)) (old new : Edges) (some more : List Need) → AddsNeeds nodes some old new
-    → (x : List ℕ) → next_in new x ++ between nodes more x ≡ next_in old x ++ between nodes (some ++ more) x
-adds_more nodes old new some more adds x = grind (arith, append_assoc, between-append)
+-- an edge that is drawn of a need of one bean
+pub edge-drawn : (numbers : Numbers) (x y : List ℕ) (from : ℕ) (to : Option ℕ) → get byte_order numbers x ≡ Some from
+    → get byte_order numbers y ≡ to → map (edge from) (option_to_list to) ≡ edges_of numbers ((x, y ∷ []) ∷ [])
+edge-drawn numbers x y from None is at = rw (is, at) refl
+edge-drawn numbers x y from (Some q) is at = rw (is, at) refl
 
--- a bean whose entry has now these behind what it had
-pub need_added : (nodes : List (List ℕ)) (old new : List ℕ → List (List ℕ)) (node : List ℕ) (needed items : List (List ℕ))
-    → has nodes node ≡ true → items ≡ old node ++ filter (has nodes) needed
-    → ((x : List ℕ) → new x ≡ cond (bytes_eq node x) items (old x))
-    → (x : List ℕ) → new x ≡ old x ++ between nodes ((node, needed) ∷ []) x
-need_added nodes old new node needed items among are entries x = entries x ∙ by (bytes_eq node x) refl
-  where
-    by : (t : Bool) → bytes_eq node x ≡ t
-        → cond t items (old x) ≡ old x ++ cond (has nodes x) (filter (has nodes) (cond t needed [] ++ [])) []
-    by true same =
-        are
-        ∙ ap (λ y. old y ++ filter (has nodes) needed) (one_text node x same)
-        ∙ ap (λ ys. old x ++ filter (has nodes) ys) (sym (append-nil needed))
-        ∙ ap (λ t. old x ++ cond t (filter (has nodes) (needed ++ [])) []) (sym among ∙ ap (has nodes) (one_text node x same))
-    by false other = sym (append-nil (old x)) ∙ ap (λ ys. old x ++ ys) (sym (between-none nodes x))
-
--- ---- needs by answers
-
-chosen-answers : (ds : List Decl) (points : List PointDecl) → flat_map chosen_one (map (answer_to ds) points) ≡ chosen_for ds points
-chosen-answers ds [] = refl
-chosen-answers ds (p ∷ ps) = ap (λ xs. chosen_one (answer_to ds p) ++ xs) (chosen-answers ds ps)
-
--- the answers to some points choose what is chosen for them
-pub chosen_by_answers : {L : Type 0} (value : L → Choice) (ds : List Decl) (points : List PointDecl) (answers : List L)
-    → map value answers ≡ map (answer_to ds) points → flat_map chosen_one (map value answers) ≡ chosen_for ds points
-chosen_by_answers value ds points answers are = ap (flat_map chosen_one) are ∙ chosen-answers ds points
+pub edges-more : (numbers : Numbers) (old new : List Edge) (some more : List Need) → new ≡ old ++ edges_of numbers some
+    → new ++ edges_of numbers more ≡ old ++ edges_of numbers (some ++ more)
+edges-more numbers old new some more are =
+    ap (λ es. es ++ edges_of numbers more) are ∙ append_assoc old (edges_of numbers some) (edges_of numbers more)
+    ∙ ap (λ es. old ++ es) (sym (edges_of-append numbers some more))

@@ -1,12 +1,12 @@
 -- Beans by the binding types at their places, and that an interceptor stands around none but those of its first binding type.
 use Rattle.cdi_validate.proofs.Common.{◌≡◌, List, ◌++◌, sym, ap, ◌∙◌, flat_map, Decl, ◌<◌, ℕ, zero, suc, Bool, true, false, cond, [], ◌∷◌}
-use Rattle.cdi_validate.proofs.Common.{length, map, filter, refl, IsStrictlySortedBy, and_parts, false≢true, ◌&&◌, bytes_eq, or_left}
-use Rattle.cdi_validate.proofs.Common.{AreDistinct, BeanDecl, has, Edges, between, Some, inl, inr, append-nil, slice_get, one_text}
+use Rattle.cdi_validate.proofs.Common.{length, map, refl, IsStrictlySortedBy, and_parts, false≢true, ◌&&◌, bytes_eq, or_left}
+use Rattle.cdi_validate.proofs.Common.{AreDistinct, BeanDecl, has, Some, inl, inr, append-nil, slice_get, one_text}
 use Rattle.cdi_validate.proofs.Common.{and-false, or_cases, or_right, same_Some, InterceptorDecl, BeanPlace, text_of_id, own-found}
 use Rattle.cdi_validate.proofs.Common.{is_enabled, stands_around, managed_id, need_around, ◌||◌, Option, None, none-some, Qual, ◌+◌, get_or}
-use Rattle.cdi_validate.proofs.Common.{unwrap_or, flat_map-append, map-append, drop, byte_order, IsFound, or_assoc, AddsNeeds, Vec, Global}
+use Rattle.cdi_validate.proofs.Common.{unwrap_or, flat_map-append, map-append, drop, byte_order, IsFound, or_assoc, Vec, Global}
 use Rattle.cdi_validate.proofs.Common.{name_of_use, class_bindings, sets_of, next-left, rise-next, has_binding_in, with_binding}
-use Rattle.cdi_validate.proofs.Common.{AreByBinding, option_map, arith, next_in, beans_in}
+use Rattle.cdi_validate.proofs.Common.{AreByBinding, option_map, arith, beans_in, keys_of, get, is_some, option_to_list}
 use Rattle.std.proofs.lemmas.Option.{slice_get-get_or, slice_get-map}
 use Rattle.std.specs.Borrow.{Bor}
 use Rattle.cdi_model.specs.declared.decl.Decl.TheVariants as decls
@@ -14,7 +14,8 @@ use Rattle.cdi_model.specs.declared.decl.UseKind.TheVariants as use_kinds
 use Rattle.cdi_match.specs.Covering.{covers, covers_by}
 use Rattle.cdi_intercept.specs.Chains.{covered_in, surrounds, surrounds_one}
 use Rattle.cdi_resolve.proofs.PlaceLemmas.{none-after}
-use Rattle.cdi_validate.proofs.NeedLemmas.{between-append, between-none}
+use Rattle.cdi_validate.proofs.NeedLemmas.{edges_of-append, has-key}
+use Rattle.cdi_validate.specs.Needed.{edge, edges_of, numbers_of, Numbers}
 use Rattle.cdi_validate.specs.Surrounded.{has_binding_at_place, may_surround, BeansByBinding}
 
 -- ---- lists, one element after another
@@ -132,57 +133,56 @@ none-unbound ds i d none =
 
 -- ---- the needs of the beans of that type are all
 
--- another bean than some has no edge between them
-none-other : (nodes chosen : List (List ℕ)) (text x : List ℕ) → has nodes text ≡ false → between nodes ((text, chosen) ∷ []) x ≡ []
-none-other nodes chosen text x other = by (bytes_eq text x) refl
+-- what has no number has no edge
+none-other : (numbers : Numbers) (chosen : List (List ℕ)) (text : List ℕ) → has (keys_of numbers.entries) text ≡ false
+    → edges_of numbers ((text, chosen) ∷ []) ≡ []
+none-other numbers chosen text other = by (get byte_order numbers text) (has-key numbers.entries text ∙ other)
   where
-    neither : (t : Bool) → cond t (filter (has nodes) []) [] ≡ []
-    neither true = refl
-    neither false = refl
+    by : (o : Option ℕ) → is_some o ≡ false → flat_map (λ p. map (edge p) (numbers_of numbers chosen)) (option_to_list o) ++ [] ≡ []
+    by None h = refl
+    by (Some p) h = absurd (false≢true (sym h))
 
-    by : (t : Bool) → bytes_eq text x ≡ t → cond (has nodes x) (filter (has nodes) (cond (bytes_eq text x) chosen [] ++ [])) [] ≡ []
-    by true e = ap (λ t. cond t (filter (has nodes) (cond (bytes_eq text x) chosen [] ++ [])) [])
-        (ap (has nodes) (sym (one_text text x e)) ∙ other)
-    by false e = ap (λ t. cond (has nodes x) (filter (has nodes) (cond t chosen [] ++ [])) []) e ∙ neither (has nodes x)
-
--- the same edges are between some beans by the needs of those of them that have a binding of the first binding type
-around-one : (ds : List Decl) (nodes : List (List ℕ)) (i : InterceptorDecl) (b : Qual) (bs : List Qual) (chosen : List (List ℕ))
-    (x : List ℕ) → i.bindings ≡ b ∷ bs → (d : Decl)
-    → between nodes (flat_map (need_around ds i chosen) (map (λ bean. decls.Bean bean) (with_binding nodes ds b.name d))) x
-    ≡ between nodes (need_around ds i chosen d) x
-around-one ds nodes i b bs chosen x are (decls.Bean d) = by (has nodes text) (has_binding_at_place ds b.name d) refl refl
+-- the same edges come of the needs of those that have a binding of the first binding type
+around-one : (ds : List Decl) (numbers : Numbers) (i : InterceptorDecl) (b : Qual) (bs : List Qual) (chosen : List (List ℕ))
+    → i.bindings ≡ b ∷ bs → (d : Decl)
+    → edges_of numbers (flat_map (need_around ds i chosen)
+    (map (λ bean. decls.Bean bean) (with_binding (keys_of numbers.entries) ds b.name d)))
+    ≡ edges_of numbers (need_around ds i chosen d)
+around-one ds numbers i b bs chosen are (decls.Bean d) =
+    by (has (keys_of numbers.entries) text) (has_binding_at_place ds b.name d) refl refl
   where
     text : List ℕ
     text = text_of_id (managed_id d)
 
-    outside : (t : Bool) → has nodes text ≡ false → [] ≡ between nodes (cond t ((text, chosen) ∷ []) []) x
-    outside true other = sym (none-other nodes chosen text x other)
-    outside false other = sym (between-none nodes x)
+    outside : (t : Bool) → has (keys_of numbers.entries) text ≡ false → [] ≡ edges_of numbers (cond t ((text, chosen) ∷ []) [])
+    outside true other = sym (none-other numbers chosen text other)
+    outside false other = refl
 
-    by : (t u : Bool) → has nodes text ≡ t → has_binding_at_place ds b.name d ≡ u
-        → between nodes (flat_map (need_around ds i chosen) (map (λ bean. decls.Bean bean) (cond (t && u) (d ∷ []) []))) x
-        ≡ between nodes (need_around ds i chosen (decls.Bean d)) x
-    by true true e f = ap (λ needs. between nodes needs x) (append-nil (need_around ds i chosen (decls.Bean d)))
-    by true false e f = ap (λ t. between nodes (cond t ((text, chosen) ∷ []) []) x) (sym (none-with_other ds i b bs d are f))
-    by false u e f = between-none nodes x ∙ outside (stands_around ds i d) e
-around-one ds nodes i b bs chosen x are other = refl
+    by : (t u : Bool) → has (keys_of numbers.entries) text ≡ t → has_binding_at_place ds b.name d ≡ u
+        → edges_of numbers (flat_map (need_around ds i chosen) (map (λ bean. decls.Bean bean) (cond (t && u) (d ∷ []) [])))
+        ≡ edges_of numbers (need_around ds i chosen (decls.Bean d))
+    by true true e f = ap (edges_of numbers) (append-nil (need_around ds i chosen (decls.Bean d)))
+    by true false e f = ap (λ t. edges_of numbers (cond t ((text, chosen) ∷ []) [])) (sym (none-with_other ds i b bs d are f))
+    by false u e f = outside (stands_around ds i d) e
+around-one ds numbers i b bs chosen are other = refl
 
-around-first : (ds : List Decl) (nodes : List (List ℕ)) (i : InterceptorDecl) (b : Qual) (bs : List Qual) (chosen : List (List ℕ))
-    (x : List ℕ) → i.bindings ≡ b ∷ bs → (es : List Decl)
-    → between nodes (flat_map (need_around ds i chosen) (map (λ bean. decls.Bean bean) (flat_map (with_binding nodes ds b.name) es))) x
-    ≡ between nodes (flat_map (need_around ds i chosen) es) x
-around-first ds nodes i b bs chosen x are [] = refl
-around-first ds nodes i b bs chosen x are (e ∷ es) =
+around-first : (ds : List Decl) (numbers : Numbers) (i : InterceptorDecl) (b : Qual) (bs : List Qual) (chosen : List (List ℕ))
+    → i.bindings ≡ b ∷ bs → (es : List Decl)
+    → edges_of numbers (flat_map (need_around ds i chosen)
+    (map (λ bean. decls.Bean bean) (flat_map (with_binding (keys_of numbers.entries) ds b.name) es)))
+    ≡ edges_of numbers (flat_map (need_around ds i chosen) es)
+around-first ds numbers i b bs chosen are [] = refl
+around-first ds numbers i b bs chosen are (e ∷ es) =
     let given = need_around ds i chosen in
-    let own = with_binding nodes ds b.name e in
-    let others = flat_map (with_binding nodes ds b.name) es in
+    let own = with_binding (keys_of numbers.entries) ds b.name e in
+    let others = flat_map (with_binding (keys_of numbers.entries) ds b.name) es in
     let bean : BeanDecl → Decl = λ d. decls.Bean d in
-    ap (λ all. between nodes (flat_map given all) x) (map-append bean own others)
-    ∙ ap (λ needs. between nodes needs x) (flat_map-append given (map bean own) (map bean others))
-    ∙ between-append nodes (flat_map given (map bean own)) (flat_map given (map bean others)) x
-    ∙ ap (λ ys. ys ++ between nodes (flat_map given (map bean others)) x) (around-one ds nodes i b bs chosen x are e)
-    ∙ ap (λ ys. between nodes (given e) x ++ ys) (around-first ds nodes i b bs chosen x are es)
-    ∙ sym (between-append nodes (given e) (flat_map given es) x)
+    ap (λ all. edges_of numbers (flat_map given all)) (map-append bean own others)
+    ∙ ap (edges_of numbers) (flat_map-append given (map bean own) (map bean others))
+    ∙ edges_of-append numbers (flat_map given (map bean own)) (flat_map given (map bean others))
+    ∙ ap (λ ys. ys ++ edges_of numbers (flat_map given (map bean others))) (around-one ds numbers i b bs chosen are e)
+    ∙ ap (λ ys. edges_of numbers (given e) ++ ys) (around-first ds numbers i b bs chosen are es)
+    ∙ sym (edges_of-append numbers (given e) (flat_map given es))
 
 -- an interceptor that lists no binding gives no bean a need
 none-given : (ds : List Decl) (i : InterceptorDecl) (chosen : List (List ℕ)) → i.bindings ≡ [] → (es : List Decl)
@@ -191,30 +191,20 @@ none-given ds i chosen none [] = refl
 none-given ds i chosen none (decls.Bean d ∷ es) = grind (arith, none-given ds i chosen none es, none-unbound)
 none-given ds i chosen none (other ∷ es) = none-given ds i chosen none es
 
--- so the beans around which an interceptor may stand are enough
-pub around-may : (ds : List Decl) (nodes : List (List ℕ)) (i : InterceptorDecl) (chosen : List (List ℕ)) (by_binding : BeansByBinding)
-    → AreByBinding nodes ds by_binding → (x : List ℕ)
-    → between nodes (flat_map (need_around ds i chosen) (map (λ bean. decls.Bean bean) (may_surround by_binding i.bindings))) x
-    ≡ between nodes (flat_map (need_around ds i chosen) ds) x
-around-may ds nodes i chosen by_binding stand x = by i.bindings refl
+-- so the beans around which an interceptor may be are enough
+pub around-may : (ds : List Decl) (numbers : Numbers) (i : InterceptorDecl) (chosen : List (List ℕ)) (by_binding : BeansByBinding)
+    → AreByBinding (keys_of numbers.entries) ds by_binding
+    → edges_of numbers (flat_map (need_around ds i chosen) (map (λ bean. decls.Bean bean) (may_surround by_binding i.bindings)))
+    ≡ edges_of numbers (flat_map (need_around ds i chosen) ds)
+around-may ds numbers i chosen by_binding stand = by i.bindings refl
   where
     by : (bindings : List Qual) → i.bindings ≡ bindings
-        → between nodes (flat_map (need_around ds i chosen) (map (λ bean. decls.Bean bean) (may_surround by_binding bindings))) x
-        ≡ between nodes (flat_map (need_around ds i chosen) ds) x
-    by [] none = ap (λ needs. between nodes needs x) (sym (none-given ds i chosen none ds))
+        → edges_of numbers (flat_map (need_around ds i chosen) (map (λ bean. decls.Bean bean) (may_surround by_binding bindings)))
+        ≡ edges_of numbers (flat_map (need_around ds i chosen) ds)
+    by [] none = ap (edges_of numbers) (sym (none-given ds i chosen none ds))
     by (b ∷ bs) are =
-        ap (λ beans. between nodes (flat_map (need_around ds i chosen) (map (λ bean. decls.Bean bean) beans)) x) (stand b.name)
-        ∙ around-first ds nodes i b bs chosen x are ds
-
--- and where there is none the edges stay as they were
-pub adds-none-may : (ds : List Decl) (nodes : List (List ℕ)) (i : InterceptorDecl) (chosen : List (List ℕ)) (by_binding : BeansByBinding)
-    (edges : Edges) → AreByBinding nodes ds by_binding → [] ≡ may_surround by_binding i.bindings
-    → AddsNeeds nodes (flat_map (need_around ds i chosen) ds) edges edges
-adds-none-may ds nodes i chosen by_binding edges stand none x =
-    sym (append-nil (next_in edges x))
-    ∙ ap (λ ys. next_in edges x ++ ys) (sym (between-none nodes x)
-    ∙ ap (λ beans. between nodes (flat_map (need_around ds i chosen) (map (λ bean. decls.Bean bean) beans)) x) none
-    ∙ around-may ds nodes i chosen by_binding stand x)
+        ap (λ beans. edges_of numbers (flat_map (need_around ds i chosen) (map (λ bean. decls.Bean bean) beans))) (stand b.name)
+        ∙ around-first ds numbers i b bs chosen are ds
 
 -- ---- each of them is declared
 

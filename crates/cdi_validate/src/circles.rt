@@ -1,41 +1,44 @@
 //! Dependent beans that need themselves before they can be made (profile).
-ghost use Rattle.std.specs.Prelude.{◌≡◌, ◌∷◌, [], ◌++◌, ℕ, List, true, All, Some, filter, fold, map, IfOk, OnOk};
-ghost use Rattle.std.specs.BTreeMap.{keys};
-ghost use Rattle.std.specs.List.{flat_map, list_all, list_any};
-ghost use Rattle.cdi_circles.specs.Edges.{is_on_circle, next_in};
+ghost use Rattle.std.specs.Prelude.{◌≡◌, ◌<◌, ◌∷◌, [], ◌++◌, ℕ, List, true, All, Some, fold, length, map, IfOk, OnOk};
+ghost use Rattle.std.specs.BTreeMap.{get, insert_entry, keys, values};
+ghost use Rattle.std.specs.List.{flat_map, list_all, list_any, AllByRecursion};
+ghost use Rattle.std.specs.Option.{option_to_list};
 ghost use Rattle.cdi_effective.specs.Beans.{beans};
 ghost use Rattle.cdi_effective.specs.BeanText.{text_of_id};
+ghost use Rattle.cdi_effective.specs.declared.records.BeanId.{BeanId as AnId};
 ghost use Rattle.cdi_intercept.specs.Chains.{is_enabled, stands_around};
-ghost use Rattle.cdi_match.specs.Chain.{has};
+ghost use Rattle.cdi_model.specs.Bytes.{byte_order};
 ghost use Rattle.cdi_model.specs.Decl.{kind_of, name_of_decl};
 ghost use Rattle.cdi_model.specs.DeclList.{find_decl, AreDistinct};
 ghost use Rattle.cdi_model.specs.declared.decl.Decl.TheVariants as declared;
 ghost use Rattle.cdi_model.specs.declared.decl.Kind.TheVariants as kinds;
+ghost use Rattle.cdi_model.specs.declared.place.PartPlace.TheVariants as parts;
 ghost use Rattle.cdi_model.specs.Mentions.{shown};
 ghost use Rattle.cdi_observe.specs.Answers.{answer_to};
-ghost use Rattle.cdi_observe.specs.Lending.{are_answerable, is_answerable, lent_value, IsEvaluated};
+ghost use Rattle.cdi_observe.specs.Lending.{are_answerable, is_answerable, IsEvaluated};
 ghost use Rattle.cdi_observe.specs.Wanted.{key_of_point, point_named};
-ghost use Rattle.cdi_validate.specs.Circles.{bean_of_point, between, chosen_for, chosen_one, dependents_by_text, is_dependent, managed_id};
-ghost use Rattle.cdi_validate.specs.Circles.{need_around, need_in, needs, needs_in, product_id, with_dependent};
+ghost use Rattle.cdi_validate.specs.Circles.{bean_of_point, chosen_for, chosen_one, dependents_by_text, is_dependent, managed_id};
+ghost use Rattle.cdi_validate.specs.Circles.{need_around, need_in, needs, needs_in, needs_to_run, product_id, with_dependent};
 ghost use Rattle.cdi_validate.specs.Faults.{circle, circles};
-ghost use Rattle.cdi_validate.specs.Needed.{need_by, needed_first, AddsNeeds};
+ghost use Rattle.cdi_validate.specs.Needed.{bean_id, circle_at, edge, edges_of, numbers_of, AreNumbered};
 ghost use Rattle.cdi_validate.specs.Surrounded.{beans_at, with_binding, AreByBinding};
 ghost use Rattle.cdi_validate.specs.Together.{is_needless, AreNamed, HaveNoCircle};
 
 use crate::surrounded::{add_bean, may_surround};
-use cdi_circles::{Node, on_circles};
+use crate::text::Text;
+use crate::twice::is_marked;
 use cdi_effective::{BeanId, Effective};
 use cdi_faults::Fault;
 use cdi_model::{
     BeanDecl, Decl, Decls, Ident, InterceptorDecl, Mention, Mentions, Name, PartPlace, PointDecl,
-    PointPlace, Scope,
+    PointPlace, Scope, Seq,
 };
-use cdi_observe::{Lent, View, interceptors_of, records_of_decl};
+use cdi_observe::{View, interceptors_of, records_of_decl};
 use cdi_resolve::Choice;
+use cdi_ways::{Edge, on_circles};
 use std::alloc::{AllocError, Global};
 use std::collections::BTreeMap;
 use std::io::Write;
-use std::slice;
 
 /// Appends a fault for each dependent bean that needs itself, where all that the declarations ask for is known or the view
 /// keeps nothing. It takes memory for the dependent beans, for the bindings at their places, for what they need, for answers
@@ -66,11 +69,12 @@ fn push_all_circles<V: View>(
     ensures named { OnOk result (AreNamed (V.list view.now)) }
 {
     let dependents = dependents_of(alloc, view)?;
-    if dependents.is_empty() {
+    if dependents.ids.is_empty() {
         return Ok(());
     }
     let edges = edges_between(alloc, view, &dependents)?;
-    push_circles(alloc, &dependents, &edges, faults)
+    let marks = on_circles(alloc, edges.as_slice())?;
+    push_circles(&dependents, marks.as_slice(), faults)
 }
 
 /// Whether no dependent bean of some declarations needs anything, and no interceptor among them gives a bean anything to need.
@@ -123,21 +127,34 @@ fn has_dependent(beans: &[Effective]) -> bool
     false
 }
 
-/// Appends a fault for each bean that is on a circle.
+/// Appends a fault for each bean that is marked, in the order of the texts of their ids.
 fn push_circles(
-    alloc: Global,
-    dependents: &BTreeMap<Node, BeanId>,
-    edges: &BTreeMap<Node, Vec<Node>>,
+    dependents: &Dependents,
+    marks: &[bool],
     faults: &mut Vec<Fault>,
 ) -> Result<(), AllocError>
+    requires { AllByRecursion (λ number. number < length dependents.now.ids) (values dependents.now.numbers) }
     ensures { OnOk result (faults.new.items ≡ faults.old.items
-        ++ map circle (map (λ e. e.1) (filter (λ e. is_on_circle edges.now e.0) dependents.now.entries))) }
+        ++ flat_map (circle_at dependents.now.ids marks.now) (values dependents.now.numbers)) }
 {
-    let found = on_circles(alloc, edges)?;
-    for (node, id) in dependents.iter() {
-        if found.contains(node) {
-            faults.push(circle(*id))?;
-        }
+    for number in dependents.numbers.values() {
+        push_if_marked(dependents.ids.as_slice(), marks, *number, faults)?;
+    }
+    Ok(())
+}
+
+/// Appends the fault of the bean with a number, if it is marked.
+fn push_if_marked(
+    ids: &[BeanId],
+    marks: &[bool],
+    number: usize,
+    faults: &mut Vec<Fault>,
+) -> Result<(), AllocError>
+    requires { number < length ids.now }
+    ensures { OnOk result (faults.new.items ≡ faults.old.items ++ circle_at ids.now marks.now number) }
+{
+    if is_marked(marks, number) {
+        faults.push(circle(ids[number]))?;
     }
     Ok(())
 }
@@ -151,12 +168,61 @@ fn circle(id: BeanId) -> Fault
     }
 }
 
-/// The dependent beans of a view, by the texts of their ids.
-fn dependents_of<V: View>(alloc: Global, view: &V) -> Result<BTreeMap<Node, BeanId>, AllocError>
-    ensures value { IfOk result (λ dependents. dependents.entries ≡ dependents_by_text (beans (V.list view.now))) }
+/// Dependent beans. Each has a number, which is found by the text of its id.
+#[derive(Drop)]
+struct Dependents {
+    ids: Seq<BeanId>,
+    numbers: BTreeMap<Text, usize>,
+}
+
+impl Dependents {
+    /// None.
+    fn new(alloc: Global) -> Dependents
+        ensures { AreNumbered [] result }
+    {
+        Dependents {
+            ids: Seq::new(alloc),
+            numbers: BTreeMap::new(alloc),
+        }
+    }
+
+    /// Adds the bean of a class, or the product of a producer method of it.
+    fn add(&mut self, alloc: Global, class: Name, producer: Option<Ident>) -> Result<(), AllocError>
+        ensures { OnOk result ((entries : List (List ℕ × AnId)) → AreNumbered entries self.old
+            → AreNumbered (insert_entry byte_order entries (text_of_id (bean_id class producer)) (bean_id class producer)) self.new) }
+    {
+        let number = self.ids.len();
+        let id = BeanId { class, producer };
+        self.ids.push(id)?;
+        self.numbers.insert(text_of(alloc, id)?, number)?;
+        Ok(())
+    }
+
+    /// The number of a bean, if it is one of them.
+    fn number(&self, alloc: Global, id: BeanId) -> Result<Option<usize>, AllocError>
+        ensures { IfOk result (λ number. number ≡ get byte_order self.now.numbers (text_of_id id)) }
+    {
+        let text = text_of(alloc, id)?;
+        Ok(self.numbers.get(&text).copied())
+    }
+
+    /// The number of the bean that is chosen, if it is one of them.
+    fn chosen(&self, alloc: Global, choice: &Choice) -> Result<Option<usize>, AllocError>
+        ensures { IfOk result (λ number. option_to_list number ≡ numbers_of self.now.numbers (chosen_one choice.now)) }
+    {
+        match choice {
+            Choice::One(id) => self.number(alloc, *id),
+            _ => Ok(None),
+        }
+    }
+}
+
+/// The dependent beans of a view.
+fn dependents_of<V: View>(alloc: Global, view: &V) -> Result<Dependents, AllocError>
+    ensures value { IfOk result (AreNumbered (dependents_by_text (beans (V.list view.now)))) }
     ensures named { OnOk result (AreNamed (V.list view.now)) }
 {
-    let mut dependents = BTreeMap::new(alloc);
+    let mut dependents = Dependents::new(alloc);
     for decl in view.decls().iter() {
         // No effect at run time. The proof reads here that the name is one by the grammar.
         let _ = decl.name().as_bytes();
@@ -169,13 +235,14 @@ fn dependents_of<V: View>(alloc: Global, view: &V) -> Result<BTreeMap<Node, Bean
 fn add_dependents(
     alloc: Global,
     beans: &[Effective],
-    dependents: &mut BTreeMap<Node, BeanId>,
+    dependents: &mut Dependents,
 ) -> Result<(), AllocError>
-    ensures { OnOk result (dependents.new.entries ≡ fold with_dependent dependents.old.entries beans.now) }
+    ensures { OnOk result ((entries : List (List ℕ × AnId)) → AreNumbered entries dependents.old
+        → AreNumbered (fold with_dependent entries beans.now) dependents.new) }
 {
     for bean in beans {
         if is_dependent(bean) {
-            dependents.insert(node_of(alloc, bean.id)?, bean.id)?;
+            dependents.add(alloc, bean.id.class, bean.id.producer)?;
         }
     }
     Ok(())
@@ -189,26 +256,26 @@ fn is_dependent(bean: &Effective) -> bool
 }
 
 /// The text that identifies a bean.
-fn node_of(alloc: Global, id: BeanId) -> Result<Node, AllocError>
-    ensures { IfOk result (λ node. node ≡ text_of_id id) }
+fn text_of(alloc: Global, id: BeanId) -> Result<Text, AllocError>
+    ensures { IfOk result (λ text. text ≡ text_of_id id) }
 {
     let mut text = Vec::new(alloc);
     write!(text, "{id}").map_err(|_| AllocError)?;
-    Ok(Node::new(text))
+    Ok(Text::new(text))
 }
 
-/// The dependent beans that each dependent bean needs.
+/// Edges from each dependent bean to those that it needs, between their numbers.
 fn edges_between<V: View>(
     alloc: Global,
     view: &V,
-    dependents: &BTreeMap<Node, BeanId>,
-) -> Result<BTreeMap<Node, Vec<Node>>, AllocError>
+    dependents: &Dependents,
+) -> Result<Vec<Edge>, AllocError>
     requires { IsEvaluated (V.list view.now) (V.kept view.now) }
-    ensures { IfOk result (λ edges. (x : List ℕ) → next_in edges x ≡ between (keys dependents.now) (needs (V.list view.now)) x) }
+    ensures { IfOk result (λ edges. edges.items ≡ edges_of dependents.now.numbers (needs (V.list view.now))) }
 {
     let decls = view.decls();
     let by_binding = by_binding(alloc, dependents, decls)?;
-    let mut edges = BTreeMap::new(alloc);
+    let mut edges = Vec::new(alloc);
     for decl in decls.iter() {
         add_needs(alloc, view, dependents, &by_binding, decl, &mut edges)?;
     }
@@ -219,10 +286,10 @@ fn edges_between<V: View>(
 /// of each.
 fn by_binding<'a>(
     alloc: Global,
-    dependents: &BTreeMap<Node, BeanId>,
+    dependents: &Dependents,
     decls: &'a Decls,
 ) -> Result<BTreeMap<Name, Vec<&'a BeanDecl>>, AllocError>
-    ensures { IfOk result (λ by_binding. AreByBinding (keys dependents.now) decls.now by_binding) }
+    ensures { IfOk result (λ by_binding. AreByBinding (keys dependents.now.numbers) decls.now by_binding) }
 {
     let mut by_binding = BTreeMap::new(alloc);
     for decl in decls.iter() {
@@ -234,19 +301,18 @@ fn by_binding<'a>(
 /// Adds the managed bean of a declaration to those of the binding types at its places, if it is dependent.
 fn add_by_binding<'a>(
     alloc: Global,
-    dependents: &BTreeMap<Node, BeanId>,
+    dependents: &Dependents,
     decls: &Decls,
     decl: &'a Decl,
     by_binding: &mut BTreeMap<Name, Vec<&'a BeanDecl>>,
 ) -> Result<(), AllocError>
     ensures { OnOk result ((name : List ℕ) → beans_at by_binding.new name
-        ≡ beans_at by_binding.old name ++ with_binding (keys dependents.now) decls.now name decl.now) }
+        ≡ beans_at by_binding.old name ++ with_binding (keys dependents.now.numbers) decls.now name decl.now) }
 {
     let Decl::Bean(bean) = decl else {
         return Ok(());
     };
-    let node = node_of(alloc, managed_id(bean))?;
-    if !is_among(dependents, &node) {
+    if dependents.number(alloc, managed_id(bean))?.is_none() {
         return Ok(());
     }
     add_bean(alloc, decls, bean, by_binding)
@@ -256,16 +322,17 @@ fn add_by_binding<'a>(
 fn add_needs<V: View>(
     alloc: Global,
     view: &V,
-    dependents: &BTreeMap<Node, BeanId>,
+    dependents: &Dependents,
     by_binding: &BTreeMap<Name, Vec<&BeanDecl>>,
     decl: &Decl,
-    edges: &mut BTreeMap<Node, Vec<Node>>,
+    edges: &mut Vec<Edge>,
 ) -> Result<(), AllocError>
     requires distinct { AreDistinct (V.list view.now) }
     requires evaluated { IsEvaluated (V.list view.now) (V.kept view.now) }
-    requires by_binding { AreByBinding (keys dependents.now) (V.list view.now) by_binding.now }
+    requires by_binding { AreByBinding (keys dependents.now.numbers) (V.list view.now) by_binding.now }
     requires found { find_decl (kind_of decl.now) (name_of_decl decl.now) (V.list view.now) ≡ Some decl.now }
-    ensures { OnOk result (AddsNeeds (keys dependents.now) (needs_in (V.list view.now) decl.now) edges.old edges.new) }
+    ensures { OnOk result (edges.new.items ≡ edges.old.items
+        ++ edges_of dependents.now.numbers (needs_in (V.list view.now) decl.now)) }
 {
     match decl {
         Decl::Bean(bean) => add_needs_along(alloc, view, dependents, bean, decl.mentions(), edges),
@@ -280,14 +347,14 @@ fn add_needs<V: View>(
 fn add_needs_along<V: View>(
     alloc: Global,
     view: &V,
-    dependents: &BTreeMap<Node, BeanId>,
+    dependents: &Dependents,
     bean: &BeanDecl,
     mentions: Mentions<'_>,
-    edges: &mut BTreeMap<Node, Vec<Node>>,
+    edges: &mut Vec<Edge>,
 ) -> Result<(), AllocError>
     requires { are_answerable (V.kept view.now) (map key_of_point (flat_map point_named mentions)) ≡ true }
-    ensures { OnOk result (AddsNeeds (keys dependents.now)
-        (flat_map (need_in (V.list view.now) bean.now) mentions.entry) edges.old edges.new) }
+    ensures { OnOk result (edges.new.items ≡ edges.old.items
+        ++ edges_of dependents.now.numbers (flat_map (need_in (V.list view.now) bean.now) mentions.entry)) }
 {
     for mention in mentions {
         add_needs_at(alloc, view, dependents, bean, &mention, edges)?;
@@ -299,14 +366,14 @@ fn add_needs_along<V: View>(
 fn add_needs_at<V: View>(
     alloc: Global,
     view: &V,
-    dependents: &BTreeMap<Node, BeanId>,
+    dependents: &Dependents,
     bean: &BeanDecl,
     mention: &Mention<'_>,
-    edges: &mut BTreeMap<Node, Vec<Node>>,
+    edges: &mut Vec<Edge>,
 ) -> Result<(), AllocError>
     requires { are_answerable (V.kept view.now) (map key_of_point (point_named (shown mention.now))) ≡ true }
-    ensures { OnOk result (AddsNeeds (keys dependents.now)
-        (need_in (V.list view.now) bean.now (shown mention.now)) edges.old edges.new) }
+    ensures { OnOk result (edges.new.items ≡ edges.old.items
+        ++ edges_of dependents.now.numbers (need_in (V.list view.now) bean.now (shown mention.now))) }
 {
     match mention {
         Mention::Point(place, point) => match bean_of_point(bean, place) {
@@ -314,28 +381,57 @@ fn add_needs_at<V: View>(
             None => Ok(()),
         },
         Mention::Body(PartPlace::Producer(name), _) => {
-            let (id, first) = (product_id(bean, *name), Some(managed_id(bean)));
-            add_need(alloc, dependents, id, first, &[], edges)
+            add_need_to_run(alloc, dependents, bean, *name, edges)
         }
         _ => Ok(()),
     }
 }
 
-/// Adds what a bean needs for a point that is there for it.
+/// Adds what a bean needs for a point that is there for it, if it is dependent.
 fn add_need_at<V: View>(
     alloc: Global,
     view: &V,
-    dependents: &BTreeMap<Node, BeanId>,
+    dependents: &Dependents,
     id: BeanId,
     point: &PointDecl,
-    edges: &mut BTreeMap<Node, Vec<Node>>,
+    edges: &mut Vec<Edge>,
 ) -> Result<(), AllocError>
     requires { is_answerable (V.kept view.now) (key_of_point point.now) ≡ true }
-    ensures { OnOk result (AddsNeeds (keys dependents.now)
-        ((text_of_id id, chosen_one (answer_to (V.list view.now) point.now)) ∷ []) edges.old edges.new) }
+    ensures { OnOk result (edges.new.items ≡ edges.old.items
+        ++ edges_of dependents.now.numbers ((text_of_id id, chosen_one (answer_to (V.list view.now) point.now)) ∷ [])) }
 {
+    let Some(from) = dependents.number(alloc, id)? else {
+        return Ok(());
+    };
     let answer = view.lent_choice(alloc, &point.required_type, &point.qualifiers)?;
-    add_need(alloc, dependents, id, None, slice::from_ref(&answer), edges)
+    push_edge(from, dependents.chosen(alloc, answer.get())?, edges)
+}
+
+/// Adds that the product of a producer method, if it is dependent, needs the bean that declares it.
+fn add_need_to_run(
+    alloc: Global,
+    dependents: &Dependents,
+    bean: &BeanDecl,
+    producer: Ident,
+    edges: &mut Vec<Edge>,
+) -> Result<(), AllocError>
+    ensures { OnOk result (edges.new.items ≡ edges.old.items
+        ++ edges_of dependents.now.numbers (needs_to_run bean.now (parts.Producer producer))) }
+{
+    let Some(from) = dependents.number(alloc, product_id(bean, producer))? else {
+        return Ok(());
+    };
+    push_edge(from, dependents.number(alloc, managed_id(bean))?, edges)
+}
+
+/// Appends an edge, if it leads to a bean.
+fn push_edge(from: usize, to: Option<usize>, edges: &mut Vec<Edge>) -> Result<(), AllocError>
+    ensures { OnOk result (edges.new.items ≡ edges.old.items ++ map (edge from) (option_to_list to)) }
+{
+    if let Some(to) = to {
+        edges.push(Edge { from, to })?;
+    }
+    Ok(())
 }
 
 /// The bean for which a point is there: none waits for the parameters of an observer method.
@@ -353,17 +449,18 @@ fn bean_of_point(bean: &BeanDecl, place: &PointPlace) -> Option<BeanId>
 fn add_needs_around<V: View>(
     alloc: Global,
     view: &V,
-    dependents: &BTreeMap<Node, BeanId>,
+    dependents: &Dependents,
     by_binding: &BTreeMap<Name, Vec<&BeanDecl>>,
     interceptor: &InterceptorDecl,
-    edges: &mut BTreeMap<Node, Vec<Node>>,
+    edges: &mut Vec<Edge>,
 ) -> Result<(), AllocError>
     requires distinct { AreDistinct (V.list view.now) }
     requires evaluated { IsEvaluated (V.list view.now) (V.kept view.now) }
-    requires by_binding { AreByBinding (keys dependents.now) (V.list view.now) by_binding.now }
+    requires by_binding { AreByBinding (keys dependents.now.numbers) (V.list view.now) by_binding.now }
     requires found { find_decl kinds.Interceptor interceptor.now.name (V.list view.now) ≡ Some (declared.Interceptor interceptor.now) }
-    ensures { OnOk result (AddsNeeds (keys dependents.now) (flat_map (need_around (V.list view.now) interceptor.now
-        (chosen_for (V.list view.now) interceptor.now.points)) (V.list view.now)) edges.old edges.new) }
+    ensures { OnOk result (edges.new.items ≡ edges.old.items ++ edges_of dependents.now.numbers
+        (flat_map (need_around (V.list view.now) interceptor.now (chosen_for (V.list view.now) interceptor.now.points))
+        (V.list view.now))) }
 {
     if interceptor.priority.is_none() {
         return Ok(());
@@ -371,9 +468,7 @@ fn add_needs_around<V: View>(
     let Some(beans) = may_surround(by_binding, interceptor) else {
         return Ok(());
     };
-    let answers = answers_to(alloc, view, interceptor.points.as_slice())?;
-    let mut chosen = Vec::new(alloc);
-    push_chosen(alloc, dependents, answers.as_slice(), &mut chosen)?;
+    let chosen = chosen_for(alloc, view, dependents, interceptor.points.as_slice())?;
     if chosen.is_empty() {
         return Ok(());
     }
@@ -384,52 +479,64 @@ fn add_needs_around<V: View>(
             dependents,
             interceptor,
             bean,
-            answers.as_slice(),
+            chosen.as_slice(),
             edges,
         )?;
     }
     Ok(())
 }
 
-/// The answers to some points.
-fn answers_to<'a, V: View>(
+/// The numbers of the dependent beans that are chosen for some points.
+fn chosen_for<V: View>(
     alloc: Global,
-    view: &'a V,
+    view: &V,
+    dependents: &Dependents,
     points: &[PointDecl],
-) -> Result<Vec<Lent<'a, Choice>>, AllocError>
+) -> Result<Vec<usize>, AllocError>
     requires { are_answerable (V.kept view.now) (map key_of_point points.now) ≡ true }
-    ensures { IfOk result (λ answers. map lent_value answers.items ≡ map (answer_to (V.list view.now)) points.now) }
+    ensures { IfOk result (λ chosen. chosen.items
+        ≡ numbers_of dependents.now.numbers (chosen_for (V.list view.now) points.now)) }
 {
-    let mut answers = Vec::with_capacity(alloc, points.len())?;
+    let mut chosen = Vec::new(alloc);
     for point in points {
-        answers.push(view.lent_choice(alloc, &point.required_type, &point.qualifiers)?)?;
+        let answer = view.lent_choice(alloc, &point.required_type, &point.qualifiers)?;
+        if let Some(number) = dependents.chosen(alloc, answer.get())? {
+            chosen.push(number)?;
+        }
     }
-    Ok(answers)
+    Ok(chosen)
 }
 
 /// Adds what a managed bean needs for an interceptor that is enabled, if it is dependent, and the interceptor is around a
-/// place of it: what these answers to the interceptor's points choose.
+/// place of it: the beans with these numbers.
 fn add_need_around<V: View>(
     alloc: Global,
     view: &V,
-    dependents: &BTreeMap<Node, BeanId>,
+    dependents: &Dependents,
     interceptor: &InterceptorDecl,
     bean: &BeanDecl,
-    answers: &[Lent<'_, Choice>],
-    edges: &mut BTreeMap<Node, Vec<Node>>,
+    chosen: &[usize],
+    edges: &mut Vec<Edge>,
 ) -> Result<(), AllocError>
     requires distinct { AreDistinct (V.list view.now) }
     requires evaluated { IsEvaluated (V.list view.now) (V.kept view.now) }
     requires around { find_decl kinds.Interceptor interceptor.now.name (V.list view.now) ≡ Some (declared.Interceptor interceptor.now) }
     requires enabled { is_enabled interceptor.now ≡ true }
     requires bean { find_decl kinds.Bean bean.now.name (V.list view.now) ≡ Some (declared.Bean bean.now) }
-    ensures { OnOk result (AddsNeeds (keys dependents.now) (need_around (V.list view.now) interceptor.now
-        (flat_map chosen_one (map lent_value answers.now)) (declared.Bean bean.now)) edges.old edges.new) }
+    ensures { OnOk result ((needed : List (List ℕ)) → chosen.now ≡ numbers_of dependents.now.numbers needed
+        → edges.new.items ≡ edges.old.items
+        ++ edges_of dependents.now.numbers (need_around (V.list view.now) interceptor.now needed (declared.Bean bean.now))) }
 {
     if !is_around(alloc, view, interceptor, bean)? {
         return Ok(());
     }
-    add_need(alloc, dependents, managed_id(bean), None, answers, edges)
+    let Some(from) = dependents.number(alloc, managed_id(bean))? else {
+        return Ok(());
+    };
+    for to in chosen {
+        edges.push(Edge { from, to: *to })?;
+    }
+    Ok(())
 }
 
 /// Whether an interceptor that is enabled is around a place of a bean.
@@ -466,98 +573,4 @@ fn product_id(bean: &BeanDecl, producer: Ident) -> BeanId
         class: bean.name,
         producer: Some(producer),
     }
-}
-
-/// Adds what a bean needs, if it is dependent: the bean that is made first, and those that are chosen for its points.
-fn add_need(
-    alloc: Global,
-    dependents: &BTreeMap<Node, BeanId>,
-    id: BeanId,
-    first: Option<BeanId>,
-    answers: &[Lent<'_, Choice>],
-    edges: &mut BTreeMap<Node, Vec<Node>>,
-) -> Result<(), AllocError>
-    ensures { OnOk result (AddsNeeds (keys dependents.now) (need_by id first (map lent_value answers.now) ∷ [])
-        edges.old edges.new) }
-{
-    let node = node_of(alloc, id)?;
-    if !is_among(dependents, &node) {
-        return Ok(());
-    }
-    let mut next = edges.remove(&node).unwrap_or(Vec::new(alloc));
-    push_needed(alloc, dependents, first, answers, &mut next)?;
-    if !next.is_empty() {
-        edges.insert(node, next)?;
-    }
-    Ok(())
-}
-
-/// Appends those that are dependent of the bean that is made first and the chosen beans.
-fn push_needed(
-    alloc: Global,
-    dependents: &BTreeMap<Node, BeanId>,
-    first: Option<BeanId>,
-    answers: &[Lent<'_, Choice>],
-    next: &mut Vec<Node>,
-) -> Result<(), AllocError>
-    ensures { OnOk result (next.new.items ≡ next.old.items ++ filter (has (keys dependents.now))
-        (needed_first first (map lent_value answers.now))) }
-{
-    if let Some(id) = first {
-        push_dependent(alloc, dependents, id, next)?;
-    }
-    push_chosen(alloc, dependents, answers, next)
-}
-
-/// Appends the chosen beans that are dependent.
-fn push_chosen(
-    alloc: Global,
-    dependents: &BTreeMap<Node, BeanId>,
-    answers: &[Lent<'_, Choice>],
-    next: &mut Vec<Node>,
-) -> Result<(), AllocError>
-    ensures { OnOk result (next.new.items ≡ next.old.items
-        ++ filter (has (keys dependents.now)) (flat_map chosen_one (map lent_value answers.now))) }
-{
-    for answer in answers {
-        push_if_one(alloc, dependents, answer.get(), next)?;
-    }
-    Ok(())
-}
-
-/// Appends the bean that is chosen, if it is one and dependent.
-fn push_if_one(
-    alloc: Global,
-    dependents: &BTreeMap<Node, BeanId>,
-    choice: &Choice,
-    next: &mut Vec<Node>,
-) -> Result<(), AllocError>
-    ensures { OnOk result (next.new.items ≡ next.old.items ++ filter (has (keys dependents.now)) (chosen_one choice.now)) }
-{
-    match choice {
-        Choice::One(id) => push_dependent(alloc, dependents, *id, next),
-        _ => Ok(()),
-    }
-}
-
-/// Appends a bean, if it is dependent.
-fn push_dependent(
-    alloc: Global,
-    dependents: &BTreeMap<Node, BeanId>,
-    id: BeanId,
-    next: &mut Vec<Node>,
-) -> Result<(), AllocError>
-    ensures { OnOk result (next.new.items ≡ next.old.items ++ filter (has (keys dependents.now)) (text_of_id id ∷ [])) }
-{
-    let node = node_of(alloc, id)?;
-    if is_among(dependents, &node) {
-        next.push(node)?;
-    }
-    Ok(())
-}
-
-fn is_among(dependents: &BTreeMap<Node, BeanId>, node: &Node) -> bool
-    ensures { result ≡ has (keys dependents.now) node.now }
-{
-    dependents.contains_key(node)
 }

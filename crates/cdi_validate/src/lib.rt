@@ -5,6 +5,7 @@ mod circles;
 mod deployment;
 mod names;
 mod surrounded;
+mod text;
 mod twice;
 
 pub use circles::are_needless;

@@ -12,7 +12,7 @@ ghost use Rattle.cdi_validate.specs.Linked.{links_to, specializing, specializing
 ghost use Rattle.cdi_validate.specs.Together.{is_chainless, HaveNoneTwice};
 ghost use Rattle.cdi_validate.specs.Twice.{by_line, specialized_twice, with_line};
 
-use cdi_circles::Node;
+use crate::text::Text;
 use cdi_effective::{Effective, behind};
 use cdi_faults::Fault;
 use cdi_model::{BeanDecl, Decl, Decls, Kind, Name};
@@ -179,7 +179,7 @@ fn mark(marks: &mut Vec<bool>, position: usize)
 }
 
 /// The faults between each two of some chains, by their lines.
-fn lines_between(alloc: Global, chains: &[BeanChain]) -> Result<BTreeMap<Node, Fault>, AllocError>
+fn lines_between(alloc: Global, chains: &[BeanChain]) -> Result<BTreeMap<Text, Fault>, AllocError>
     ensures { IfOk result (λ lines. lines.entries ≡ by_line (faults_between chains.now)) }
 {
     let mut lines = BTreeMap::new(alloc);
@@ -196,7 +196,7 @@ fn add_lines(
     alloc: Global,
     chain: &BeanChain,
     later: &[BeanChain],
-    lines: &mut BTreeMap<Node, Fault>,
+    lines: &mut BTreeMap<Text, Fault>,
 ) -> Result<(), AllocError>
     ensures { OnOk result (lines.new.entries ≡ fold with_line lines.old.entries (flat_map (faults_of_chains chain.now) later.now)) }
 {
@@ -211,7 +211,7 @@ fn add_line(
     alloc: Global,
     chain: &BeanChain,
     later: &BeanChain,
-    lines: &mut BTreeMap<Node, Fault>,
+    lines: &mut BTreeMap<Text, Fault>,
 ) -> Result<(), AllocError>
     ensures { OnOk result (lines.new.entries ≡ fold with_line lines.old.entries (faults_of_chains chain.now later.now)) }
 {
@@ -240,23 +240,24 @@ fn first_marked(links: &[Link], marks: &[bool]) -> Option<Name>
     None
 }
 
-fn is_marked(marks: &[bool], position: usize) -> bool
+/// Whether the mark at a position is set: none is beyond the last.
+pub(crate) fn is_marked(marks: &[bool], position: usize) -> bool
     ensures { result ≡ is_marked marks.now position }
 {
     matches!(marks.get(position), Some(true))
 }
 
 /// The line that a fault prints.
-fn line_of(alloc: Global, fault: &Fault) -> Result<Node, AllocError>
+fn line_of(alloc: Global, fault: &Fault) -> Result<Text, AllocError>
     ensures { IfOk result (λ line. line ≡ text_of_fault fault.now) }
 {
     let mut text = Vec::new(alloc);
     fault.push_text(&mut text)?;
-    Ok(Node::new(text))
+    Ok(Text::new(text))
 }
 
 /// Appends the faults, in the order of their lines.
-fn push_all(lines: BTreeMap<Node, Fault>, faults: &mut Vec<Fault>) -> Result<(), AllocError>
+fn push_all(lines: BTreeMap<Text, Fault>, faults: &mut Vec<Fault>) -> Result<(), AllocError>
     ensures { OnOk result (faults.new.items ≡ faults.old.items ++ values lines) }
 {
     for fault in lines.into_values() {

@@ -1,11 +1,12 @@
 -- One more edge among those that leave nodes.
 use Rattle.cdi_ways.proofs.Common.{◌≡◌, ◌+◌, ◌-◌, ◌<◌, ℕ, zero, suc, nat_eq, List, [], ◌∷◌, ◌++◌, cond, get_or, length, map, inl, inr, refl}
 use Rattle.cdi_ways.proofs.Common.{ap, sym, subst, ◌∙◌, arith, slice_get, eqb_tells, cases_lt, none-some, same_Some, at-front, at-joined}
-use Rattle.cdi_ways.proofs.Common.{Edge, at_node, Has, Leaves}
+use Rattle.cdi_ways.proofs.Common.{Edge, at_node, common_steps, slice_get_cases, Has, leaving_at, Leaves}
 use Rattle.std.proofs.Common.{set}
 use Rattle.std.proofs.Common.{get_or-set_other, get_or-set_same}
+use Rattle.std.proofs.Common.{Vec, Global}
 use Rattle.std.specs.{Borrow.Bor, List.sum_by}
-use Rattle.std.proofs.lemmas.{Bool.eq-eqb, List.length-map, List.map-set, List.Sums.sum_by-set}
+use Rattle.std.proofs.lemmas.{Bool.eq-eqb, List.get_or-map, List.length-map, List.map-set, List.Sums.sum_by-set}
 use Rattle.cdi_ways.proofs.ListLemmas.{at_second}
 
 abbrev pub AreRight : List Edge → (ℕ → List ℕ) → Type 0
@@ -18,7 +19,7 @@ AreWholeBelow edges at end = (node p : ℕ) → p < end → Leaves edges node p 
 abbrev pub Puts : ℕ → ℕ → (ℕ → List ℕ) → (ℕ → List ℕ) → Type 0
 Puts node p at at' = (n : ℕ) → at' n ≡ cond (nat_eq node n) (at n ++ p ∷ []) (at n)
 
-has_only : (q p : ℕ) → Has (q ∷ []) p → q ≡ p
+pub has_only : (q p : ℕ) → Has (q ∷ []) p → q ≡ p
 has_only q p (zero, h) = same_Some q p h
 has_only q p (suc j, h) = absurd (none-some p h)
 
@@ -77,6 +78,16 @@ set_at each node n ps within = elim (eqb_tells node n) [
   | inr other ↦
       get_or-set_other each node n ps [] (λ e. other.1 (sym e)) ∙ ap (λ b. cond b ps (at_node each n)) (sym other.0)
 ]
+
+-- what is read at a node
+pub leaving_read : (leaving : List (Vec ℕ Global)) (node : ℕ) (positions : Vec ℕ Global) → node < length leaving
+    → positions ≡ get_or leaving node positions → leaving_at leaving node ≡ positions.items
+leaving_read leaving node positions within read =
+    get_or-map (λ each. each.items) leaving node positions [] within ∙ ap (λ each. each.items) (sym read)
+
+-- none is past the last node
+pub leaving_within : (leaving : List (Vec ℕ Global)) (node p : ℕ) → Has (leaving_at leaving node) p → node < length leaving
+leaving_within leaving node p has = grind (arith, common_steps, slice_get_cases (leaving_at leaving node) has.0)
 
 -- a value is put in place of one at a node
 pub set_mapped : {X : Type 0} (positions : X → List ℕ) (xs : List X) (node n : ℕ) (x : X) → node < length xs

@@ -1,3 +1,5 @@
 pub mod Leaving
 pub mod Search
 pub mod Ways
+pub mod Circles
+pub mod Order

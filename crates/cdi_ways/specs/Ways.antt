@@ -17,3 +17,7 @@ HasNoCircle edges node = (ps : List ℕ) → IsCircle edges node ps → ⊥
 -- no way back has fewer edges
 abbrev pub IsShortest : List Edge → ℕ → List ℕ → Type 0
 IsShortest edges node ps = (others : List ℕ) → IsCircle edges node others → length ps ≤ length others
+
+-- some way of one edge or more leads from a node back to it
+abbrev pub IsOnCircle : List Edge → ℕ → Type 0
+IsOnCircle edges node = (ps : List ℕ) × IsCircle edges node ps

@@ -1,6 +1,7 @@
 //! The search for the shortest way from a node back to itself.
-ghost use Rattle.std.specs.Prelude.{◌≡◌, ◌<◌, OnOk, IfOk, IfSome, IfNone, length, map};
-ghost use Rattle.cdi_ways.specs.Leaving.{HoldsLeaving};
+ghost use Rattle.std.specs.Prelude.{◌≡◌, ◌↔◌, ◌<◌, ℕ, Some, OnOk, IfOk, IfSome, IfNone, length, map, slice_get};
+ghost use Rattle.cdi_ways.specs.declared.edge.Edge.{Edge as AnEdge};
+ghost use Rattle.cdi_ways.specs.Leaving.{Has, HoldsLeaving, Leaves};
 ghost use Rattle.cdi_ways.specs.Search.{Follows, IsLinked, IsWayTo, SearchesFrom};
 ghost use Rattle.cdi_ways.specs.Ways.{HasNoCircle, IsCircle, IsShortest};
 
@@ -44,6 +45,36 @@ impl Ways {
         ensures { result.now ≡ self.now }
     {
         &self.edges
+    }
+
+    /// The positions of the edges that leave a node.
+    pub(crate) fn leaving_of(&self, node: usize) -> &[usize]
+        ensures { (p : ℕ) → Has result.now p ↔ Leaves self.now node p }
+    {
+        match self.leaving.get(node) {
+            Some(positions) => positions.as_slice(),
+            None => &[],
+        }
+    }
+
+    /// The node to which the edge at a position leads.
+    pub(crate) fn end_of(&self, position: usize) -> usize
+        requires { position < length self.now }
+        ensures { (e : AnEdge) → slice_get self.now position ≡ Some e → result ≡ e.to }
+    {
+        self.edges[position].to
+    }
+
+    /// A number above each node that an edge leaves.
+    pub(crate) fn count(&self) -> usize
+        ensures { (node p : ℕ) → Leaves self.now node p → node < result }
+    {
+        self.leaving.len()
+    }
+
+    /// The positions of the edges that leave each node, lent.
+    pub(crate) fn lent(&self, alloc: Global) -> Result<Vec<&[usize]>, AllocError> {
+        lent(alloc, &self.leaving)
     }
 
     /// The positions of the edges of a shortest way from a node back to itself, if there is one. The first edge leaves the node,

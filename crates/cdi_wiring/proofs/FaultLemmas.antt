@@ -136,22 +136,7 @@ record AreFree (f : Mention → Option Subject) (bean : BeanDecl) : Type 0 where
 each-part-free : (f : Mention → Option Subject) (bean : BeanDecl) → IsFree f (mentions (decls.Bean bean)) → AreFree f bean
 unfolding mentions
 each-part-free f bean free =
-    grind (
-      arith,
-      bean.name,
-      bean.attributes,
-      bean.bindings,
-      bean.points,
-      bean.construct,
-      bean.post,
-      bean.pre,
-      bean.methods,
-      bean.producers,
-      bean.disposers,
-      bean.observers,
-      front-free,
-      back-free,
-    )
+    grind (arith, front-free, back-free)
 
 -- nothing is at fault of what an interceptor declaration names
 record AreFreeAround (f : Mention → Option Subject) (i : InterceptorDecl) : Type 0 where

@@ -1,29 +1,27 @@
-use Rattle.cdi_validate.proofs.Common.{◌++◌, sym, ap, ◌∙◌, flat_map, arith, keys, between, append-nil, need_in, next_in}
+use Rattle.cdi_validate.proofs.Common.{◌++◌, sym, ap, ◌∙◌, flat_map, arith, append-nil, need_in}
 use Rattle.std.proofs.lemmas.Grind.{common_steps}
 use Rattle.cdi_model.specs.Mentions.{shown}
-use Rattle.cdi_validate.proofs.NeedLemmas.{adds_more, between-none}
+use Rattle.cdi_validate.proofs.NeedLemmas.{edges-more}
+use Rattle.cdi_validate.specs.Needed.{edges_of}
 use Rattle.cdi_validate.proofs.circles.add_needs_along.Goals as goal
 
 pub loop-mention-preserved : goal.loop-mention-preserved
 loop-mention-preserved g c =
     let need = need_in (g.V.View.list c.args.view.now) c.args.bean.now in
-    let nodes = keys c.args.dependents.now in
-    let m = shown c.in-Some.mention in
-    let ms = c.next.new.self in
-    let before = c.loop-mention.edges in
+    let numbers = c.args.dependents.now.numbers in
+    let before = c.loop-mention.edges.items in
     record {
       answerable = grind (arith, common_steps);
-      edges = λ x. adds_more nodes before c.add_needs_at.new.edges (need m) (flat_map need ms) c.in_ok-add_needs_at.ensures x
-          ∙ ap (λ all. next_in before x ++ between nodes (flat_map need all) x) (sym c.in-Some.ensures.steps)
-          ∙ c.loop-mention.invariant.edges x;
+      edges = edges-more numbers before c.add_needs_at.new.edges.items (need (shown c.in-Some.mention)) (flat_map need c.next.new.self)
+          c.in_ok-add_needs_at.ensures
+          ∙ ap (λ all. before ++ edges_of numbers (flat_map need all)) (sym c.in-Some.ensures.steps)
+          ∙ c.loop-mention.invariant.edges;
     }
 
 pub returns : goal.returns
-returns g c = λ x.
+returns g c =
     let need = need_in (g.V.View.list c.args.view.now) c.args.bean.now in
-    let nodes = keys c.args.dependents.now in
-    let now = next_in c.loop-mention.edges x in
+    let now = c.loop-mention.edges.items in
     sym (append-nil now)
-    ∙ ap (λ ys. now ++ ys) (sym (between-none nodes x))
-    ∙ ap (λ ms. now ++ between nodes (flat_map need ms) x) (sym c.in-None.ensures.steps.0)
-    ∙ c.loop-mention.invariant.edges x
+    ∙ ap (λ ms. now ++ edges_of c.args.dependents.now.numbers (flat_map need ms)) (sym c.in-None.ensures.steps.0)
+    ∙ c.loop-mention.invariant.edges

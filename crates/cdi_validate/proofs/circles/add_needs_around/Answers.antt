@@ -1,37 +1,34 @@
-use Rattle.cdi_validate.proofs.Common.{◌≡◌, List, ◌++◌, sym, ap, ◌∙◌, flat_map, Decl, true, [], map, filter, arith, eqb-true, subst}
-use Rattle.cdi_validate.proofs.Common.{nil_from_length, has, keys, between, inl, inr, append-nil, PointDecl, answer_to, points-declared}
-use Rattle.cdi_validate.proofs.Common.{chosen_for, chosen_one, need_around, ◌+◌, drop, Choice, next-left, lent_value, are_answerable}
-use Rattle.cdi_validate.proofs.Common.{key_of_point, points-answerable, drop_all, next_in, beans_in}
+use Rattle.cdi_validate.proofs.Common.{◌≡◌, ◌++◌, sym, ap, ◌∙◌, flat_map, true, map, arith, eqb-true, subst}
+use Rattle.cdi_validate.proofs.Common.{nil_from_length, keys, inl, inr, append-nil, points-declared, chosen_for, need_around, ◌+◌, drop}
+use Rattle.cdi_validate.proofs.Common.{next-left, are_answerable, key_of_point, points-answerable, drop_all, beans_in}
 use Rattle.std.specs.Option.{option_copied}
 use Rattle.cdi_model.specs.declared.decl.Decl.TheVariants as declared
-use Rattle.cdi_observe.specs.declared.lent.Lent.{Lent}
-use Rattle.cdi_validate.proofs.NeedLemmas.{adds_more, adds-none-around, between-none, chosen_by_answers}
-use Rattle.cdi_validate.proofs.SurroundLemmas.{adds-none-may, around-may, bean-found}
+use Rattle.cdi_validate.proofs.NeedLemmas.{edges-more, none-around}
+use Rattle.cdi_validate.proofs.SurroundLemmas.{around-may, bean-found}
+use Rattle.cdi_validate.specs.Needed.{edges_of, numbers_of}
 use Rattle.cdi_validate.proofs.circles.add_needs_around.Goals as goal
-
--- what the answers that are lent choose
-chosen-lent : (ds : List Decl) (points declared : List PointDecl) (answers slice : List (Lent Choice)) → slice ≡ answers
-    → map lent_value answers ≡ map (answer_to ds) points → points ≡ declared
-    → flat_map chosen_one (map lent_value slice) ≡ chosen_for ds declared
-chosen-lent ds points declared answers slice are answered same =
-    ap (λ lent. flat_map chosen_one (map lent_value lent)) are ∙ chosen_by_answers lent_value ds points answers answered
-    ∙ ap (chosen_for ds) same
 
 pub returns-then-is_none : goal.returns-then-is_none
 returns-then-is_none g c =
     let ds = g.V.View.list c.args.view.now in
-    adds-none-around ds (keys c.args.dependents.now) c.args.interceptor.now (chosen_for ds c.args.interceptor.now.points) c.args.edges.now
-    (inl c.if-is_none.ensures)
+    let old = c.args.edges.now.items in
+    sym (ap (λ es. old ++ es) (none-around ds c.args.dependents.now.numbers c.args.interceptor.now
+    (chosen_for ds c.args.interceptor.now.points) (inl c.if-is_none.ensures) ds) ∙ append-nil old)
 
 pub returns-in_default : goal.returns-in_default
 returns-in_default g c =
     let ds = g.V.View.list c.args.view.now in
-    adds-none-may ds (keys c.args.dependents.now) c.args.interceptor.now (chosen_for ds c.args.interceptor.now.points)
-    c.args.by_binding.now c.args.edges.now c.requires.by_binding
+    let numbers = c.args.dependents.now.numbers in
+    let old = c.args.edges.now.items in
+    let given = need_around ds c.args.interceptor.now (chosen_for ds c.args.interceptor.now.points) in
+    sym (append-nil old)
+    ∙ ap (λ beans. old ++ edges_of numbers (flat_map given (map (λ bean. declared.Bean bean) beans)))
     (ap (λ o. beans_in (option_copied o)) (sym c.in_default.is) ∙ c.may_surround.ensures)
+    ∙ ap (λ es. old ++ es) (around-may ds numbers c.args.interceptor.now (chosen_for ds c.args.interceptor.now.points)
+    c.args.by_binding.now c.requires.by_binding)
 
-pub answers_to-requires : goal.answers_to-requires
-answers_to-requires g c =
+pub chosen_for-requires : goal.chosen_for-requires
+chosen_for-requires g c =
     let kept = g.V.View.kept c.args.view.now in
     let i = declared.Interceptor c.args.interceptor.now in
     subst (λ points. are_answerable kept (map key_of_point points) ≡ true) (points-declared i ∙ sym c.as_slice.ensures)
@@ -40,68 +37,58 @@ answers_to-requires g c =
 pub returns-then-is_empty : goal.returns-then-is_empty
 returns-then-is_empty g c =
     let ds = g.V.View.list c.args.view.now in
-    let nodes = keys c.args.dependents.now in
-    let points = c.args.interceptor.now.points in
-    let next = c.push_chosen.new.next in
-    let none : next.items ≡ [] = nil_from_length next.items
-    (omega (arith, next.ok.0, eqb-true next.len 0 (sym c.is_empty.ensures ∙ c.if-is_empty.true))) in
-    let chosen = chosen-lent ds c.as_slice.result.now points c.in_ok-answers.answers.items c.as_slice-2.result.now
-    c.as_slice-2.ensures.value
-    c.in_ok-answers.ensures c.as_slice.ensures in
-    adds-none-around ds nodes c.args.interceptor.now (chosen_for ds points) c.args.edges.now
-    (inr (ap (filter (has nodes)) (sym chosen)
-    ∙ ap (λ start. start ++ filter (has nodes) (flat_map chosen_one (map lent_value c.as_slice-2.result.now)))
-    (sym c.new-chosen.ensures.items)
-    ∙ sym c.in_ok-push_chosen.ensures ∙ none))
+    let old = c.args.edges.now.items in
+    let chosen = c.in_ok-chosen.chosen in
+    let none = nil_from_length chosen.items (omega (arith, chosen.ok.0, eqb-true chosen.len 0 (sym c.is_empty.ensures ∙ c.if-is_empty.true))) in
+    sym (ap (λ es. old ++ es) (none-around ds c.args.dependents.now.numbers c.args.interceptor.now
+    (chosen_for ds c.args.interceptor.now.points)
+    (inr (ap (λ points. numbers_of c.args.dependents.now.numbers (chosen_for ds points)) (sym c.as_slice.ensures)
+    ∙ sym c.in_ok-chosen.ensures ∙ none)) ds) ∙ append-nil old)
 
 pub loop-bean-init : goal.loop-bean-init
-loop-bean-init g c = λ x.
+loop-bean-init g c =
     let ds = g.V.View.list c.args.view.now in
-    let nodes = keys c.args.dependents.now in
+    let numbers = c.args.dependents.now.numbers in
     let chosen = chosen_for ds c.args.interceptor.now.points in
-    let given = need_around ds c.args.interceptor.now chosen in
-    let old = next_in c.args.edges.now x in
-    ap (λ beans. old ++ between nodes (flat_map given (map (λ bean. declared.Bean bean) beans)) x)
+    let old = c.args.edges.now.items in
+    ap (λ beans. old ++ edges_of numbers (flat_map (need_around ds c.args.interceptor.now chosen) (map (λ bean. declared.Bean bean) beans)))
     (ap (map (λ bean. bean.now)) c.as_slice-bean-items.ensures.value ∙ c.in-Some.ensures)
-    ∙ ap (λ ys. old ++ ys) (around-may ds nodes c.args.interceptor.now chosen c.args.by_binding.now c.requires.by_binding x)
+    ∙ ap (λ es. old ++ es) (around-may ds numbers c.args.interceptor.now chosen c.args.by_binding.now c.requires.by_binding)
 
 pub add_need_around-requires-clause-bean : goal.add_need_around-requires-clause-bean
 add_need_around-requires-clause-bean g c =
-    bean-found (g.V.View.list c.args.view.now) (keys c.args.dependents.now) c.args.by_binding.now c.args.interceptor.now.bindings
+    bean-found (g.V.View.list c.args.view.now) (keys c.args.dependents.now.numbers) c.args.by_binding.now c.args.interceptor.now.bindings
     c.as_slice-bean-items.result.now c.loop-bean.bean-index c.bean-item.result c.requires.distinct c.requires.by_binding
     (ap (map (λ bean. bean.now)) c.as_slice-bean-items.ensures.value ∙ c.in-Some.ensures) c.loop-bean-test.true c.bean-item.is
 
 pub loop-bean-preserved : goal.loop-bean-preserved
-loop-bean-preserved g c = λ x.
+loop-bean-preserved g c =
     let ds = g.V.View.list c.args.view.now in
-    let nodes = keys c.args.dependents.now in
-    let around = need_around ds c.args.interceptor.now in
+    let numbers = c.args.dependents.now.numbers in
     let points = c.args.interceptor.now.points in
-    let before = c.loop-bean.edges in
+    let before = c.loop-bean.edges.items in
     let beans = c.as_slice-bean-items.result.now in
     let i = c.loop-bean.bean-index in
     let bean = c.bean-item.result in
-    let chosen = chosen-lent ds c.as_slice.result.now points c.in_ok-answers.answers.items c.as_slice-in-loop-bean.result.now
-    c.as_slice-in-loop-bean.ensures.value c.in_ok-answers.ensures c.as_slice.ensures in
-    let given = around (chosen_for ds points) in
-    adds_more nodes before c.add_need_around.new.edges (given (declared.Bean bean.now))
+    let given = need_around ds c.args.interceptor.now (chosen_for ds points) in
+    edges-more numbers before c.add_need_around.new.edges.items (given (declared.Bean bean.now))
     (flat_map given (map (λ bean. declared.Bean bean) (map (λ bean. bean.now) (drop (i + 1) beans))))
-    (λ y. c.in_ok-add_need_around.ensures y
-    ∙ ap (λ texts. next_in before y ++ between nodes (around texts (declared.Bean bean.now)) y) chosen) x
-    ∙ sym (next-left (λ left. next_in before x
-    ++ between nodes (flat_map given (map (λ bean. declared.Bean bean) (map (λ bean. bean.now) left))) x)
+    (c.in_ok-add_need_around.ensures (chosen_for ds points)
+    (c.as_slice-in-loop-bean.ensures.value ∙ c.in_ok-chosen.ensures
+    ∙ ap (λ points. numbers_of numbers (chosen_for ds points)) c.as_slice.ensures))
+    ∙ sym (next-left (λ left. before
+    ++ edges_of numbers (flat_map given (map (λ bean. declared.Bean bean) (map (λ bean. bean.now) left))))
     beans i bean c.loop-bean-test.true c.bean-item.is)
-    ∙ c.loop-bean.invariant x
+    ∙ c.loop-bean.invariant
 
 pub returns : goal.returns
-returns g c = λ x.
+returns g c =
     let ds = g.V.View.list c.args.view.now in
-    let nodes = keys c.args.dependents.now in
     let given = need_around ds c.args.interceptor.now (chosen_for ds c.args.interceptor.now.points) in
     let beans = c.as_slice-bean-items.result.now in
-    let now = next_in c.loop-bean.edges x in
+    let now = c.loop-bean.edges.items in
     sym (append-nil now)
-    ∙ ap (λ ys. now ++ ys) (sym (between-none nodes x))
-    ∙ ap (λ left. now ++ between nodes (flat_map given (map (λ bean. declared.Bean bean) (map (λ bean. bean.now) left))) x)
+    ∙ ap (λ left. now
+    ++ edges_of c.args.dependents.now.numbers (flat_map given (map (λ bean. declared.Bean bean) (map (λ bean. bean.now) left))))
     (sym (drop_all c.loop-bean.bean-index beans (omega (arith, c.loop-bean-test.false))))
-    ∙ c.loop-bean.invariant x
+    ∙ c.loop-bean.invariant

@@ -1,5 +1,6 @@
 use Rattle.cdi_validate.proofs.Common.{all-append, ◌≡◌, ◌++◌, sym, ap, ◌∙◌, append_assoc, flat_map, true, [], ◌∷◌, is_name, subst}
-use Rattle.cdi_validate.proofs.Common.{dependents_by_text, append-nil, name_of_decl, entries, AreNamed, fold, fold-append, with_dependent}
+use Rattle.cdi_validate.proofs.Common.{dependents_by_text, append-nil, name_of_decl, entries, AreNamed, fold-append, with_dependent}
+use Rattle.cdi_validate.specs.Needed.{AreNumbered}
 use Rattle.cdi_validate.proofs.FoundLemmas.{all-gone, found-next, records-next}
 use Rattle.cdi_validate.proofs.circles.dependents_of.Goals as goal
 
@@ -22,10 +23,10 @@ loop-decl-preserved g c =
     let own = c.records_of_decl.result.now in (
       es ++ d ∷ [],
       append_assoc es (d ∷ []) rest ∙ split,
-      c.in_ok-add_dependents.ensures
-          ∙ ap (λ dependents. fold with_dependent dependents own) gone.2
-          ∙ sym (fold-append with_dependent [] before own)
-          ∙ ap dependents_by_text (ap (λ records. before ++ records) c.records_of_decl.ensures ∙ records-next ds es d),
+      subst (λ entries. AreNumbered entries c.add_dependents.new.dependents)
+          (sym (fold-append with_dependent [] before own)
+          ∙ ap dependents_by_text (ap (λ records. before ++ records) c.records_of_decl.ensures ∙ records-next ds es d))
+          (c.in_ok-add_dependents.ensures (dependents_by_text before) gone.2),
       all-append (λ e. is_name (name_of_decl e) ≡ true) es (d ∷ []) gone.3
           (subst (λ name. is_name name ≡ true) c.name.ensures c.as_bytes.ensures.grammar, tt),
     )
@@ -33,9 +34,8 @@ loop-decl-preserved g c =
 pub returns-clause-value : goal.returns-clause-value
 returns-clause-value g c =
     let gone = c.loop-decl.invariant in
-    gone.2
-    ∙ ap dependents_by_text
-    (all-gone (g.V.View.list c.args.view.now) gone.0 c.loop-decl.decl-iterator c.in-None.ensures.steps.0 gone.1)
+    subst (λ bs. AreNumbered (dependents_by_text bs) c.loop-decl.dependents)
+    (all-gone (g.V.View.list c.args.view.now) gone.0 c.loop-decl.decl-iterator c.in-None.ensures.steps.0 gone.1) gone.2
 
 pub returns-clause-named : goal.returns-clause-named
 returns-clause-named g c =

@@ -1,7 +1,11 @@
-use Rattle.cdi_validate.proofs.Common.{◌≡◌, ◌++◌, map, filter, is_on_circle, circle}
+use Rattle.cdi_validate.proofs.Common.{◌≡◌, ◌<◌, ◌++◌, length, flat_map, AllByRecursion}
+use Rattle.std.specs.BTreeMap.{values}
+use Rattle.cdi_validate.specs.Needed.{circle_at}
 use Rattle.cdi_validate.proofs.circles.push_circles.Given as goal
 
-abbrev pub invariant-loop-node : goal.invariant-loop-node
-invariant-loop-node l =
-    l.faults.items ++ map circle (map (λ e. e.1) (filter (λ e. is_on_circle l.edges e.0) l.node-iterator))
-    ≡ l.fn.faults.items ++ map circle (map (λ e. e.1) (filter (λ e. is_on_circle l.edges e.0) l.dependents.entries))
+abbrev pub invariant-loop-number : goal.invariant-loop-number
+invariant-loop-number l = record {
+  within : AllByRecursion (λ number. number < length l.dependents.ids) l.number-iterator;
+  faults : l.faults.items ++ flat_map (circle_at l.dependents.ids l.marks) l.number-iterator
+      ≡ l.fn.faults.items ++ flat_map (circle_at l.dependents.ids l.marks) (values l.dependents.numbers);
+}

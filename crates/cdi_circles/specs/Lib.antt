@@ -1,4 +1,0 @@
-pub mod Circles
-pub mod Edges
-pub mod Order
-pub mod Search
