@@ -40,5 +40,5 @@ pub use Rattle.cdi_match.specs.Stereotypes.{as_stereotype}
 unfoldable pub use Rattle.cdi_match.specs.Stereotypes.{has_stereotype, stereotypes_of}
 pub use Rattle.cdi_match.specs.Order.{in_order}
 pub use Rattle.cdi_match.specs.declared.walk.Walk.{Walk}
-pub use Rattle.cdi_match.specs.Walk.{declared_among, has_mark, HasMarks, HasNames, IsWalking, Meets, tasks}
+pub use Rattle.cdi_match.specs.Walk.{listing_among, has_mark, HasMarks, HasNames, IsWalking, Meets, tasks}
 pub use Rattle.cdi_match.specs.Covering.{agree_at, agrees_by, AgreesBy, given_name, counted}

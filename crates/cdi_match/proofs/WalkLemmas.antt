@@ -3,7 +3,7 @@ use Rattle.cdi_match.proofs.Common.{◌≡◌, ◌<◌, ◌+◌, ℕ, zero, suc,
 use Rattle.cdi_match.proofs.Common.{None, is_some, refl, sym, ◌∙◌, subst, inl, inr, ap, arith, length-append, position, slice_index_or}
 use Rattle.cdi_match.proofs.Common.{slice_set, filter, option_to_list, bytes_eq, or_cases, or_left, or_right, false≢true, both_ways}
 use Rattle.cdi_match.proofs.Common.{cases_Bool, same_from_decides, one_text, same_text, HasOneMore, name_of_decl, find_decl, is_of, Decl, Kind, Links}
-use Rattle.cdi_match.proofs.Common.{Walk, ChainFromOne, Steps, has, leads, Adds, Closing, is_led_to, next_of, declared_among, has_mark}
+use Rattle.cdi_match.proofs.Common.{Walk, ChainFromOne, Steps, has, leads, Adds, Closing, is_led_to, next_of, listing_among, has_mark}
 use Rattle.cdi_match.proofs.Common.{IsWalking, Meets, HasMarks, HasNames, tasks, ◌||◌, ◌&&◌, ◌⊎◌}
 use Rattle.std.proofs.Common.{◌≢◌, option_map, zero-add, slice_get}
 use Rattle.std.proofs.lemmas.{Bool.cases_eq, List.get_or-set_same, List.get_or-set_other, List.length-set, List.Concat.flat_map-append}
@@ -13,7 +13,7 @@ use Rattle.cdi_model.proofs.PositionLemmas.{name-found, one_position, position-f
 use Rattle.cdi_model.specs.DeclList.{limit}
 use Rattle.cdi_match.proofs.Chains.{chain_more}
 use Rattle.cdi_match.proofs.SearchLemmas.{Adds-again, Adds-new, Adds-then, Closing-all, Closing-step, is_led_to_decides, one_more-has}
-use Rattle.cdi_match.specs.Walk.{has_met, names_at, names_left, next_declared, TellsMore, Told}
+use Rattle.cdi_match.specs.Walk.{has_met, has_some, is_listing, names_at, names_left, next_listing, TellsMore, Told}
 use Rattle.cdi_match.specs.Search.{kind_of, listed_by}
 use Rattle.cdi_match.specs.declared.followers.Links.TheVariants as links
 
@@ -50,15 +50,20 @@ marked-again kind ds marks name was s = by (bytes_eq name s) refl
     by true e = rw e (ap (λ n. has_mark marks (position (is_of kind n) ds)) (sym (one_text name s e)) ∙ was)
     by false e = rw e refl
 
--- ---- names that are declared
+-- ---- names whose declarations list some
 
-declared-one : (which : Links) (ds : List Decl) (name : List ℕ) → is_some (find_decl (kind_of which) name ds) ≡ true
-    → declared_among which ds (name ∷ []) ≡ name ∷ []
-declared-one which ds name is = rw is refl
+listing-one : (which : Links) (ds : List Decl) (name : List ℕ) → is_listing which ds name ≡ true
+    → listing_among which ds (name ∷ []) ≡ name ∷ []
+listing-one which ds name is = rw is refl
 
-declared-cons : (which : Links) (ds : List Decl) (name : List ℕ) (names : List (List ℕ))
-    → declared_among which ds (name ∷ []) ++ declared_among which ds names ≡ declared_among which ds (name ∷ names)
-declared-cons which ds name names = grind (arith, is_some)
+listing-cons : (which : Links) (ds : List Decl) (name : List ℕ) (names : List (List ℕ))
+    → listing_among which ds (name ∷ []) ++ listing_among which ds names ≡ listing_among which ds (name ∷ names)
+listing-cons which ds name names = by (is_listing which ds name)
+  where
+    by : (b : Bool) → cond b (name ∷ []) [] ++ listing_among which ds names ≡ cond b (name ∷ listing_among which ds names)
+        (listing_among which ds names)
+    by true = refl
+    by false = refl
 
 -- one position more gives its name
 names-one : (ds : List Decl) (name : List ℕ) (i : ℕ) (xs ys : List ℕ)
@@ -122,11 +127,10 @@ HasNames-set which ds name old new i at marked named j h = elim (cases_eq j i) [
 ]
 
 pub Meets-new : (which : Links) (ds : List Decl) (name : List ℕ) (old new : Walk) (i : ℕ)
-    → position (is_of (kind_of which) name) ds ≡ Some i → i < limit → HasMarks old → slice_index_or old.marks i false ≡ false
-    → new.marks ≡ slice_set old.marks i true → new.left ≡ slice_set old.left i true → Meets which ds (name ∷ []) old new
-Meets-new which ds name old new i at bound has unmarked marked put =
+    → position (is_of (kind_of which) name) ds ≡ Some i → is_listing which ds name ≡ true → i < limit → HasMarks old
+    → slice_index_or old.marks i false ≡ false → new.marks ≡ slice_set old.marks i true → new.left ≡ slice_set old.left i true → Meets which ds (name ∷ []) old new
+Meets-new which ds name old new i at is bound has unmarked marked put =
     let kind = kind_of which in
-    let is : is_some (find_decl kind name ds) ≡ true = sym (position-found kind name ds) ∙ ap is_some at in
     let within : i < length old.marks = omega (arith, has.sized) in
     let waits : slice_index_or old.left i false ≡ false = not_left (slice_index_or old.left i false) refl in
     let one : HasOneMore i (marked_from 0 old.left) (marked_from 0 new.left) =
@@ -134,7 +138,7 @@ Meets-new which ds name old new i at bound has unmarked marked put =
     (one_left old.left i (omega (arith, has.left_sized)) waits) in
     record {
       adds = subst (λ names. Adds names (has_met which ds old) (names_left ds old) (has_met which ds new)
-          (names_left ds new)) (sym (declared-one which ds name is))
+          (names_left ds new)) (sym (listing-one which ds name is))
           (Adds-new name (has_met which ds old) (names_left ds old) (has_met which ds new) (names_left ds new)
           (λ s. ap (λ ms. has_mark ms (position (is_of kind s) ds)) marked ∙ marked-more kind ds old.marks name i at within s)
           (ap (has_mark old.marks) at ∙ unmarked)
@@ -153,14 +157,14 @@ Meets-new which ds name old new i at bound has unmarked marked put =
     not_left true e = absurd (false≢true (sym unmarked ∙ has.within i e))
 
 pub Meets-again : (which : Links) (ds : List Decl) (name : List ℕ) (w : Walk) (i : ℕ)
-    → position (is_of (kind_of which) name) ds ≡ Some i → slice_index_or w.marks i false ≡ true → Meets which ds (name ∷ []) w w
-Meets-again which ds name w i at was =
+    → position (is_of (kind_of which) name) ds ≡ Some i → is_listing which ds name ≡ true → slice_index_or w.marks i false ≡ true
+    → Meets which ds (name ∷ []) w w
+Meets-again which ds name w i at is was =
     let kind = kind_of which in
-    let is : is_some (find_decl kind name ds) ≡ true = sym (position-found kind name ds) ∙ ap is_some at in
     let found : has_met which ds w name ≡ true = ap (has_mark w.marks) at ∙ was in
     record {
       adds = subst (λ names. Adds names (has_met which ds w) (names_left ds w) (has_met which ds w)
-          (names_left ds w)) (sym (declared-one which ds name is))
+          (names_left ds w)) (sym (listing-one which ds name is))
           (Adds-again name (has_met which ds w) (names_left ds w) (has_met which ds w) (names_left ds w)
           (marked-again kind ds w.marks name found) found refl);
       kept = λ has. has;
@@ -176,8 +180,8 @@ pub Meets-cons : (which : Links) (ds : List Decl) (name : List ℕ) (names : Lis
     → Meets which ds (name ∷ []) a b → Meets which ds names b c → Meets which ds (name ∷ names) a c
 Meets-cons which ds name names a b c m n = record {
   adds = subst (λ all. Adds all (has_met which ds a) (names_left ds a) (has_met which ds c) (names_left ds c))
-      (declared-cons which ds name names)
-      (Adds-then (declared_among which ds (name ∷ [])) (declared_among which ds names) (has_met which ds a) (names_left ds a)
+      (listing-cons which ds name names)
+      (Adds-then (listing_among which ds (name ∷ [])) (listing_among which ds names) (has_met which ds a) (names_left ds a)
       (has_met which ds b) (names_left ds b) (has_met which ds c) (names_left ds c) m.adds n.adds);
   kept = λ has. n.kept (m.kept has);
   named = λ named. n.named (m.named named);
@@ -206,7 +210,7 @@ fewer-tasks old new p same was taken =
     omega (arith, longer p new.left old.left (one_taken old new p was taken), ap (λ ms. length (filter not ms)) same)
 
 still : (which : Links) (ds : List Decl) (starts : List (List ℕ)) (w popped : Walk) → popped.marks ≡ w.marks → IsWalking which ds starts w
-    → Closing (next_declared which ds) (declared_among which ds starts) (has_met which ds popped) (names_left ds w)
+    → Closing (next_listing which ds) (listing_among which ds starts) (has_met which ds popped) (names_left ds w)
 still which ds starts w popped same walking = grind (arith, position)
 
 next-listed : (which : Links) (ds : List Decl) (x : List ℕ) → next_of which ds x ≡ listed_by which (find_decl (kind_of which) x ds)
@@ -236,31 +240,31 @@ pub walk-step : (which : Links) (ds : List Decl) (starts : List (List ℕ)) (w p
     → slice_index_or w.left p false ≡ true → popped.left ≡ slice_set w.left p false
     → Meets which ds (next_of which ds name) popped new → IsWalking which ds starts new
 walk-step which ds starts w popped new p name at walking same was taken m =
-    Closing-step (next_declared which ds) (declared_among which ds starts) name (has_met which ds popped)
+    Closing-step (next_listing which ds) (listing_among which ds starts) name (has_met which ds popped)
     (names_left ds w) (names_left ds popped) (has_met which ds new) (names_left ds new) (still which ds starts w popped same walking)
     (name_taken which ds name w popped p at was taken) m.adds
 
--- ---- chains to what is declared
+-- ---- chains to names whose declarations list some
 
-has-among : (which : Links) (ds : List Decl) (names : List (List ℕ)) (y : List ℕ) → has (declared_among which ds names) y ≡ true
+has-among : (which : Links) (ds : List Decl) (names : List (List ℕ)) (y : List ℕ) → has (listing_among which ds names) y ≡ true
     → has names y ≡ true
 has-among which ds [] y h = h
-has-among which ds (n ∷ ns) y h = grind (arith, has-among which ds ns y, is_some)
+has-among which ds (n ∷ ns) y h = grind (arith, has-among which ds ns y)
 
-among-has : (which : Links) (ds : List Decl) (names : List (List ℕ)) (y : List ℕ) → is_some (find_decl (kind_of which) y ds) ≡ true
-    → has names y ≡ true → has (declared_among which ds names) y ≡ true
+among-has : (which : Links) (ds : List Decl) (names : List (List ℕ)) (y : List ℕ) → is_listing which ds y ≡ true
+    → has names y ≡ true → has (listing_among which ds names) y ≡ true
 among-has which ds [] y is h = h
-among-has which ds (n ∷ ns) y is h = by (is_some (find_decl (kind_of which) n ds)) refl (among-has which ds ns y is)
+among-has which ds (n ∷ ns) y is h = by (is_listing which ds n) refl (among-has which ds ns y is)
   where
-    by : (b : Bool) → is_some (find_decl (kind_of which) n ds) ≡ b → (has ns y ≡ true → has (declared_among which ds ns) y ≡ true)
-        → has (declared_among which ds (n ∷ ns)) y ≡ true
+    by : (b : Bool) → is_listing which ds n ≡ b → (has ns y ≡ true → has (listing_among which ds ns) y ≡ true)
+        → has (listing_among which ds (n ∷ ns)) y ≡ true
     by true e more = rw e (elim (or_cases (bytes_eq n y) (has ns y) h) [
-      | inl here ↦ or_left (bytes_eq n y) (has (declared_among which ds ns) y) here
-      | inr there ↦ or_right (bytes_eq n y) (has (declared_among which ds ns) y) (more there)
+      | inl here ↦ or_left (bytes_eq n y) (has (listing_among which ds ns) y) here
+      | inr there ↦ or_right (bytes_eq n y) (has (listing_among which ds ns) y) (more there)
     ])
     by false e more = rw e (elim (or_cases (bytes_eq n y) (has ns y) h) [
-      | inl here ↦ absurd (both_ways (is_some (find_decl (kind_of which) n ds)) e
-          (ap (λ z. is_some (find_decl (kind_of which) z ds)) (one_text n y here) ∙ is))
+      | inl here ↦ absurd (both_ways (is_listing which ds n) e
+          (ap (λ z. is_listing which ds z) (one_text n y here) ∙ is))
       | inr there ↦ more there
     ])
 
@@ -273,75 +277,81 @@ next-undeclared : (which : Links) (ds : List Decl) (x : List ℕ) → is_some (f
     → next_of which ds x ≡ []
 next-undeclared which ds x none = grind (arith, next-listed, is_some, listed-none, false≢true)
 
--- a name that another follows is declared
-owner : (which : Links) (ds : List Decl) (x y : List ℕ) → leads (next_of which ds) x y ≡ true
-    → is_some (find_decl (kind_of which) x ds) ≡ true
-owner which ds x y h = grind (arith, is_some, false≢true, next-undeclared)
+pub unlisted : (which : Links) (ds : List Decl) (x : List ℕ) → position (is_of (kind_of which) x) ds ≡ None
+    → is_listing which ds x ≡ false
+unlisted which ds x none = ap has_some (next-undeclared which ds x (sym (position-found (kind_of which) x ds) ∙ ap is_some none))
 
-steps-lift : (which : Links) (ds : List Decl) (n : ℕ) (x y : List ℕ) → Steps (leads (next_declared which ds)) n x y
+some-among : (names : List (List ℕ)) (y : List ℕ) → has names y ≡ true → has_some names ≡ true
+some-among [] y h = absurd (false≢true h)
+some-among (n ∷ ns) y h = refl
+
+-- the declaration of a name that another follows lists some
+owner : (which : Links) (ds : List Decl) (x y : List ℕ) → leads (next_of which ds) x y ≡ true → is_listing which ds x ≡ true
+owner which ds x y h = some-among (next_of which ds x) y h
+
+steps-lift : (which : Links) (ds : List Decl) (n : ℕ) (x y : List ℕ) → Steps (leads (next_listing which ds)) n x y
     → Steps (leads (next_of which ds)) n x y
 steps-lift which ds zero x y c = c
 steps-lift which ds (suc n) x y c =
     (c.0, has-among which ds (next_of which ds x) c.0 c.1, steps-lift which ds n c.0 y c.2)
 
--- all names of a chain that ends at one that is declared are declared
-steps-declared : (which : Links) (ds : List Decl) (n : ℕ) (x y : List ℕ) → is_some (find_decl (kind_of which) y ds) ≡ true
+-- all declarations along a chain list some, where that of its end does
+steps-listing : (which : Links) (ds : List Decl) (n : ℕ) (x y : List ℕ) → is_listing which ds y ≡ true
     → Steps (leads (next_of which ds)) n x y
-    → Steps (leads (next_declared which ds)) n x y × (is_some (find_decl (kind_of which) x ds) ≡ true)
-steps-declared which ds zero x y is c = (c, subst (λ z. is_some (find_decl (kind_of which) z ds) ≡ true) (sym c) is)
-steps-declared which ds (suc n) x y is c = grind (arith, steps-declared which ds n c.0 y is c.2, c.0, c.2, c.1, among-has, owner)
+    → Steps (leads (next_listing which ds)) n x y × (is_listing which ds x ≡ true)
+steps-listing which ds zero x y is c = (c, subst (λ z. is_listing which ds z ≡ true) (sym c) is)
+steps-listing which ds (suc n) x y is c = grind (arith, steps-listing which ds n c.0 y is c.2, c.0, c.2, c.1, among-has, owner)
 
 -- a chain leads to what was found
 pub walk-sound : (which : Links) (ds : List Decl) (starts : List (List ℕ)) (w : Walk) (s : List ℕ) → IsWalking which ds starts w
     → has_met which ds w s ≡ true → is_led_to which ds starts s ≡ true
 walk-sound which ds starts w s walking h =
-    let c : ChainFromOne (leads (next_declared which ds)) (declared_among which ds starts) s = walking.sound s h in
+    let c : ChainFromOne (leads (next_listing which ds)) (listing_among which ds starts) s = walking.sound s h in
     (is_led_to_decides which ds starts s).1
     (c.0, has-among which ds starts c.0 c.1, ((c.2).0, steps-lift which ds (c.2).0 c.0 s (c.2).1))
 
--- where none is left, what is declared was found just where a chain leads to it
+-- where none is left, such a name was found just where a chain leads to it
 pub walk-all : (which : Links) (ds : List Decl) (starts : List (List ℕ)) (w : Walk) (s : List ℕ) → IsWalking which ds starts w
-    → marked_count w.left ≡ 0 → is_some (find_decl (kind_of which) s ds) ≡ true → has_met which ds w s ≡ is_led_to which ds starts s
+    → marked_count w.left ≡ 0 → is_listing which ds s ≡ true → has_met which ds w s ≡ is_led_to which ds starts s
 walk-all which ds starts w s walking empty is =
     same_from_decides (has_met which ds w s) (is_led_to which ds starts s) (
       λ h. (is_led_to_decides which ds starts s).0 (walk-sound which ds starts w s walking h),
       λ c.
-          let steps = steps-declared which ds (c.2).0 c.0 s is (c.2).1 in
-          let chain : ChainFromOne (leads (next_declared which ds)) (declared_among which ds starts) s =
+          let steps = steps-listing which ds (c.2).0 c.0 s is (c.2).1 in
+          let chain : ChainFromOne (leads (next_listing which ds)) (listing_among which ds starts) s =
           (c.0, among-has which ds starts c.0 steps.1 c.1, ((c.2).0, steps.0)) in
-          Closing-all (next_declared which ds) (declared_among which ds starts) (has_met which ds w)
-          (subst (λ ns. Closing (next_declared which ds) (declared_among which ds starts) (has_met which ds w) ns)
+          Closing-all (next_listing which ds) (listing_among which ds starts) (has_met which ds w)
+          (subst (λ ns. Closing (next_listing which ds) (listing_among which ds starts) (has_met which ds w) ns)
           (ap (names_at ds) (marked_from-none 0 w.left empty))
           walking) s chain,
     )
     (is_led_to_decides which ds starts s)
 
--- ---- where no start is declared
+-- ---- where the declaration of no start lists some
 
--- no chain leads to what is declared
-led-none : (which : Links) (ds : List Decl) (starts : List (List ℕ)) (s : List ℕ) → declared_among which ds starts ≡ []
-    → is_some (find_decl (kind_of which) s ds) ≡ true → is_led_to which ds starts s ≡ false
+-- no chain leads to such a name
+led-none : (which : Links) (ds : List Decl) (starts : List (List ℕ)) (s : List ℕ) → listing_among which ds starts ≡ []
+    → is_listing which ds s ≡ true → is_led_to which ds starts s ≡ false
 led-none which ds starts s none is = by (is_led_to which ds starts s) refl
   where
     by : (b : Bool) → is_led_to which ds starts s ≡ b → is_led_to which ds starts s ≡ false
     by false e = e
     by true e =
         let c = (is_led_to_decides which ds starts s).0 e in
-        let begins = (steps-declared which ds (c.2).0 c.0 s is (c.2).1).1 in
+        let begins = (steps-listing which ds (c.2).0 c.0 s is (c.2).1).1 in
         absurd (false≢true (sym (ap (λ names. has names c.0) none) ∙ among-has which ds starts c.0 begins c.1))
 
--- ---- the first that is declared
+-- ---- the first such name
 
 among-one : (which : Links) (ds : List Decl) (name : List ℕ) (names : List (List ℕ))
-    → is_some (find_decl (kind_of which) name ds) ≡ true → declared_among which ds (name ∷ names) ≡ name ∷ declared_among which ds names
+    → is_listing which ds name ≡ true → listing_among which ds (name ∷ names) ≡ name ∷ listing_among which ds names
 among-one which ds name names is = rw is refl
 
--- the names are found with the first that is declared
-pub Meets-first : (which : Links) (ds : List Decl) (name : List ℕ) (names all : List (List ℕ)) (i : ℕ) (a b c : Walk)
-    → position (is_of (kind_of which) name) ds ≡ Some i → declared_among which ds all ≡ name ∷ declared_among which ds names
+-- the names are found with the first of these
+pub Meets-first : (which : Links) (ds : List Decl) (name : List ℕ) (names all : List (List ℕ)) (a b c : Walk)
+    → is_listing which ds name ≡ true → listing_among which ds all ≡ name ∷ listing_among which ds names
     → Meets which ds (name ∷ []) a b → Meets which ds names b c → Meets which ds all a c
-Meets-first which ds name names all i a b c at first m n =
-    let is : is_some (find_decl (kind_of which) name ds) ≡ true = sym (position-found (kind_of which) name ds) ∙ ap is_some at in
+Meets-first which ds name names all a b c is first m n =
     let both = Meets-cons which ds name names a b c m n in
     record {
       adds = subst (λ some. Adds some (has_met which ds a) (names_left ds a) (has_met which ds c) (names_left ds c))
@@ -371,7 +381,7 @@ pub told-start : (which : Links) (ds : List Decl) (starts : List (List ℕ)) (ol
 told-start which ds starts old new told none m begun = record {
   begun = begun;
   closed = λ x s met gone follows. absurd (nothing_taken (has (names_left ds old) x) (has_met which ds new x)
-      (has (declared_among which ds starts) x) (has (names_left ds new) x) (has_met which ds old x)
+      (has (listing_among which ds starts) x) (has (names_left ds new) x) (has_met which ds old x)
       (none (position (is_of (kind_of which) x) ds)) (m.adds.finds x) (m.adds.leaves x) met gone);
 }
 
@@ -389,7 +399,7 @@ pub tells-step : (which : Links) (ds : List Decl) (w popped new : Walk) (p : ℕ
 tells-step which ds w popped new p name at same was taken m starts told told' h still_told follows_told = record {
   begun = λ s is. still_told s (h.begun s is);
   closed = λ x s met gone follows. (
-      let before = taken_before (has_met which ds popped x) (has_met which ds new x) (has (next_declared which ds name) x)
+      let before = taken_before (has_met which ds popped x) (has_met which ds new x) (has (next_listing which ds name) x)
       (has (names_left ds new) x) (has (names_left ds popped) x) (m.adds.finds x) (m.adds.leaves x) met gone in
       elim (cases_Bool (bytes_eq name x)) [
         | inl is ↦ follows_told s (subst (λ n. leads (next_of which ds) n s ≡ true) (sym (one_text name x is)) follows)
@@ -454,8 +464,8 @@ told-just which ds starts w told walking h empty led s =
     same_from_decides (told s) (is_led_to which ds starts s)
     (λ is. decides.0 (led s is), λ chain. told-all which ds starts w told s walking h empty (decides.1 chain)) decides
 
--- where no start is declared, chains lead to the starts only
-pub led-only : (which : Links) (ds : List Decl) (starts : List (List ℕ)) (s : List ℕ) → declared_among which ds starts ≡ []
+-- where the declaration of no start lists some, chains lead to the starts only
+pub led-only : (which : Links) (ds : List Decl) (starts : List (List ℕ)) (s : List ℕ) → listing_among which ds starts ≡ []
     → has starts s ≡ is_led_to which ds starts s
 led-only which ds starts s none =
     let decides = is_led_to_decides which ds starts s in

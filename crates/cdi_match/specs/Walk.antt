@@ -1,12 +1,12 @@
 -- The search for declared names that chains lead to, which keeps positions of declarations.
-use Rattle.std.specs.Prelude.{◌≡◌, ◌+◌, ℕ, Bool, true, false, not, List, length, flat_map}
-use Rattle.std.specs.Prelude.{Option, Some, None, is_some, option_map}
+use Rattle.std.specs.Prelude.{◌≡◌, ◌+◌, ℕ, Bool, true, false, not, List, [], ◌∷◌, length, flat_map}
+use Rattle.std.specs.Prelude.{Option, Some, None, option_map}
 use Rattle.std.specs.Prelude.{position, slice_get}
 use Rattle.std.specs.List.{filter}
 use Rattle.std.specs.Option.{option_to_list}
 use Rattle.cdi_positions.specs.Marks.{is_marked, marked_count, marked_from}
 use Rattle.cdi_model.specs.Decl.{name_of_decl}
-use Rattle.cdi_model.specs.DeclList.{find_decl, is_of, limit}
+use Rattle.cdi_model.specs.DeclList.{is_of, limit}
 use Rattle.cdi_model.specs.declared.decl.Decl.{Decl}
 use Rattle.cdi_match.specs.declared.followers.Links.{Links}
 use Rattle.cdi_match.specs.declared.walk.Walk.{Walk}
@@ -30,18 +30,27 @@ names_at ds positions = flat_map (λ p. option_to_list (option_map name_of_decl 
 abbrev pub names_left : List Decl → Walk → List (List ℕ)
 names_left ds w = names_at ds (marked_from 0 w.left)
 
--- of some names those that are declared
-abbrev pub declared_among : Links → List Decl → List (List ℕ) → List (List ℕ)
-declared_among which ds names = filter (λ n. is_some (find_decl (kind_of which) n ds)) names
+-- there is a name
+abbrev pub has_some : List (List ℕ) → Bool
+has_some [] = false
+has_some (name ∷ names) = true
 
--- the declared names that follow a name
-abbrev pub next_declared : Links → List Decl → List ℕ → List (List ℕ)
-next_declared which ds name = declared_among which ds (next_of which ds name)
+-- a name is declared, and its declaration lists some names
+abbrev pub is_listing : Links → List Decl → List ℕ → Bool
+is_listing which ds name = has_some (next_of which ds name)
 
--- a walk from these names, as far as they are declared
+-- those of some names whose declarations do
+abbrev pub listing_among : Links → List Decl → List (List ℕ) → List (List ℕ)
+listing_among which ds names = filter (is_listing which ds) names
+
+-- those that follow a name
+abbrev pub next_listing : Links → List Decl → List ℕ → List (List ℕ)
+next_listing which ds name = listing_among which ds (next_of which ds name)
+
+-- a walk from these names, as far as their declarations list some
 abbrev pub IsWalking : Links → List Decl → List (List ℕ) → Walk → Type 0
 IsWalking which ds starts w =
-    Closing (next_declared which ds) (declared_among which ds starts) (has_met which ds w) (names_left ds w)
+    Closing (next_listing which ds) (listing_among which ds starts) (has_met which ds w) (names_left ds w)
 
 -- how many declarations are left to be taken, or not found
 abbrev pub tasks : Walk → ℕ
@@ -63,7 +72,7 @@ has_none_left w = marked_count w.left ≡ 0
 
 -- the declarations of some names were found, and those that are new are left to be taken
 pub record Meets (which : Links) (ds : List Decl) (names : List (List ℕ)) (old new : Walk) : Type 0 where
-  pub adds : Adds (declared_among which ds names) (has_met which ds old) (names_left ds old) (has_met which ds new)
+  pub adds : Adds (listing_among which ds names) (has_met which ds old) (names_left ds old) (has_met which ds new)
       (names_left ds new)
   pub kept : HasMarks old → HasMarks new
   pub named : HasNames which ds old → HasNames which ds new

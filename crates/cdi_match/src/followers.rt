@@ -1,9 +1,10 @@
 //! The names that follow a name.
-ghost use Rattle.std.specs.Prelude.{◌≡◌, [], Some, None, flat_map, map};
+ghost use Rattle.std.specs.Prelude.{◌≡◌, [], Some, None, flat_map, map, not};
 ghost use Rattle.std.specs.Iterator.{YieldsFirstRef, item_count};
 ghost use Rattle.std.specs.Option.{option_copied};
 ghost use Rattle.cdi_model.specs.Quals.{name_of_use};
 ghost use Rattle.cdi_match.specs.Search.{kind_of, listed_by, next_of};
+ghost use Rattle.cdi_match.specs.Walk.{has_some};
 
 use cdi_model::{Decl, Decls, Kind, Name, Qual};
 use std::marker::Model;
@@ -60,6 +61,13 @@ impl<'a> Followers<'a> {
             names,
             uses: &[],
         }
+    }
+
+    /// Whether none is left.
+    pub(crate) fn is_empty(&self) -> bool
+        ensures { result ≡ not (has_some self.now) }
+    {
+        self.first.is_none() && self.names.is_empty() && self.uses.is_empty()
     }
 
     /// What a declaration lists, if there is one.

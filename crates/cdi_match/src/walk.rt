@@ -9,7 +9,7 @@ ghost use Rattle.cdi_model.specs.DeclList.{is_of, limit};
 ghost use Rattle.cdi_match.specs.Chain.{has};
 ghost use Rattle.cdi_match.specs.declared.followers.Links.{Links as AnyLinks};
 ghost use Rattle.cdi_match.specs.Search.{is_led_to, kind_of, next_of};
-ghost use Rattle.cdi_match.specs.Walk.{declared_among, has_mark, has_none_left, tasks, HasMarks, HasNames, IsWalking, Meets};
+ghost use Rattle.cdi_match.specs.Walk.{has_mark, has_none_left, is_listing, listing_among, tasks, HasMarks, HasNames, IsWalking, Meets};
 ghost use Rattle.cdi_match.specs.Walk.{TellsMore, Told};
 
 use crate::followers::{Followers, Links, following};
@@ -38,9 +38,9 @@ impl Walk {
         }
     }
 
-    /// A walk that begins with what is declared of some names. There is none where no name is declared.
+    /// A walk that begins with those of some names whose declarations list some. There is none where there are none of these.
     fn from(decls: &Decls, links: Links, names: Followers<'_>) -> Option<Walk>
-        ensures none { IfNone result (declared_among links decls.now names.entry ≡ []) }
+        ensures none { IfNone result (listing_among links decls.now names.entry ≡ []) }
         ensures walking { IfSome result (λ walk. IsWalking links decls.now names.entry walk) }
         ensures kept { IfSome result (λ walk. HasMarks walk) }
         ensures named { IfSome result (λ walk. HasNames links decls.now walk) }
@@ -48,7 +48,7 @@ impl Walk {
             → ((s : List ℕ) → has names.entry s ≡ true → told s ≡ true) → Told links decls.now names.entry walk told) }
     {
         let mut names = names;
-        let first = first_declared(decls, links, &mut names)?;
+        let first = first_listing(decls, links, &mut names)?;
         let mut walk = Walk::new();
         walk.find(first);
         walk.add_all(decls, links, names);
@@ -60,19 +60,19 @@ impl Walk {
         requires bound { place < limit }
         requires kept { HasMarks self.old }
         ensures { (links : AnyLinks) (ds : List AnyDecl) (name : List ℕ) → position (is_of (kind_of links) name) ds ≡ Some place
-            → Meets links ds (name ∷ []) self.old self.new }
+            → is_listing links ds name ≡ true → Meets links ds (name ∷ []) self.old self.new }
     {
         if self.marks.insert(place) {
             self.left.put(place);
         }
     }
 
-    /// Finds the declaration of a name, if there is one.
+    /// Finds the declaration of a name, if it lists some names.
     fn add(&mut self, decls: &Decls, links: Links, name: &Name)
         requires { HasMarks self.old }
         ensures { Meets links decls.now (name.now ∷ []) self.old self.new }
     {
-        if let Some(position) = decls.position(links.kind(), name) {
+        if let Some(position) = listing_position(decls, links, name) {
             self.find(position);
         }
     }
@@ -109,15 +109,30 @@ impl Walk {
     }
 }
 
-/// Leaves out the first names that are not declared, and the one after them. The position of its declaration.
-fn first_declared(decls: &Decls, links: Links, names: &mut Followers<'_>) -> Option<usize>
-    ensures some { IfSome result (λ first. (name : List ℕ) × (position (is_of (kind_of links) name) decls.now ≡ Some first)
-        × (declared_among links decls.now names.old ≡ name ∷ declared_among links decls.now names.new)) }
-    ensures bound { IfSome result (λ first. first < limit) }
-    ensures none { IfNone result (declared_among links decls.now names.old ≡ []) }
+/// The position of the declaration of a name, if it lists some names.
+fn listing_position(decls: &Decls, links: Links, name: &Name) -> Option<usize>
+    ensures some { IfSome result (λ p. (position (is_of (kind_of links) name.now) decls.now ≡ Some p)
+        × (is_listing links decls.now name.now ≡ true)) }
+    ensures bound { IfSome result (λ p. p < limit) }
+    ensures none { IfNone result (is_listing links decls.now name.now ≡ false) }
 {
-    'undeclared: while let Some(name) = names.next() {
-        if let Some(position) = decls.position(links.kind(), name) {
+    let position = decls.position(links.kind(), name)?;
+    if Followers::of(links, decls.at(position)).is_empty() {
+        return None;
+    }
+    Some(position)
+}
+
+/// Leaves out the first names whose declarations list none, and the one after them. The position of its declaration.
+fn first_listing(decls: &Decls, links: Links, names: &mut Followers<'_>) -> Option<usize>
+    ensures some { IfSome result (λ first. (name : List ℕ) × (position (is_of (kind_of links) name) decls.now ≡ Some first)
+        × (is_listing links decls.now name ≡ true)
+        × (listing_among links decls.now names.old ≡ name ∷ listing_among links decls.now names.new)) }
+    ensures bound { IfSome result (λ first. first < limit) }
+    ensures none { IfNone result (listing_among links decls.now names.old ≡ []) }
+{
+    'unlisting: while let Some(name) = names.next() {
+        if let Some(position) = listing_position(decls, links, name) {
             return Some(position);
         }
     }

@@ -1,5 +1,5 @@
 use Rattle.cdi_match.proofs.Common.{ap, sym, refl, inl, inr, ◌∙◌, bytes_eq, cases_Bool, both_ways, not-true, same_text, has}
-use Rattle.cdi_match.proofs.Common.{declared_among, is_led_to, next_of, not}
+use Rattle.cdi_match.proofs.Common.{listing_among, is_led_to, next_of, not}
 use Rattle.cdi_match.proofs.WalkLemmas.{led-only, led-start, told-all}
 use Rattle.cdi_match.proofs.walk.leads_on.Goals as goal
 
@@ -14,7 +14,7 @@ returns-in_default c =
     let starts = next_of c.args.links c.args.decls.now c.args.start.now in
     sym c.if-has_name.false ∙ c.has_name.ensures ∙ ap (λ names. has names c.args.goal.now) c.following.ensures
     ∙ led-only c.args.links c.args.decls.now starts c.args.goal.now
-    (ap (declared_among c.args.links c.args.decls.now) (sym c.following-2.ensures) ∙ c.in_default.ensures.none)
+    (ap (listing_among c.args.links c.args.decls.now) (sym c.following-2.ensures) ∙ c.in_default.ensures.none)
 
 pub returns : goal.returns
 returns c =

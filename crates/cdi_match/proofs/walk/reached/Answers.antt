@@ -1,4 +1,4 @@
-use Rattle.cdi_match.proofs.Common.{◌≡◌, ℕ, Bool, List, ap, subst, sym, ◌∙◌, arith, contains, byte_order, has, declared_among, IsWalking}
+use Rattle.cdi_match.proofs.Common.{◌≡◌, ℕ, Bool, List, ap, subst, sym, ◌∙◌, arith, contains, byte_order, has, listing_among, IsWalking}
 use Rattle.cdi_match.proofs.WalkLemmas.{led-only, led-start, told-just}
 use Rattle.cdi_match.specs.Walk.{Told}
 use Rattle.cdi_match.proofs.walk.reached.Goals as goal
@@ -7,7 +7,7 @@ pub returns-in_default : goal.returns-in_default
 returns-in_default c = λ s.
     c.in_ok-add_names.ensures s ∙ grind (arith, c.new-found.ensures.empty, c.of_names.ensures)
     ∙ led-only c.args.links c.args.decls.now c.args.starts.now s
-    (ap (declared_among c.args.links c.args.decls.now) (sym c.of_names-2.ensures) ∙ c.in_default.ensures.none)
+    (ap (listing_among c.args.links c.args.decls.now) (sym c.of_names-2.ensures) ∙ c.in_default.ensures.none)
 
 pub taken-init : goal.taken-init
 taken-init c =

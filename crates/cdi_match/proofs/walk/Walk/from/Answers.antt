@@ -6,8 +6,9 @@ use Rattle.cdi_match.proofs.walk.Walk.from.Goals as goal
 abbrev met : (c : goal.After-add_all) → Meets c.args.links c.args.decls.now c.args.names c.new-walk.result c.add_all.new.self
 met c =
     let first = c.in_ok-first.ensures.some in
-    Meets-first c.args.links c.args.decls.now first.0 c.first_declared.new.names c.args.names c.in_ok-first.first c.new-walk.result
-    c.find.new.self c.add_all.new.self first.1 first.2 (c.find.ensures c.args.links c.args.decls.now first.0 first.1) c.add_all.ensures
+    Meets-first c.args.links c.args.decls.now first.0 c.first_listing.new.names c.args.names c.new-walk.result
+    c.find.new.self c.add_all.new.self first.2 first.3 (c.find.ensures c.args.links c.args.decls.now first.0 first.1 first.2)
+    c.add_all.ensures
 
 pub returns-clause-walking : goal.returns-clause-walking
 returns-clause-walking c =
