@@ -200,7 +200,7 @@ class Touching:
             uses[place] = self.respelt(kind, uses[place])
         elif uses and draw < 0.7:
             del uses[self.chance.randrange(len(uses))]
-        elif further:
+        elif further and len(uses) < LIST_LIMIT:
             uses.append(self.respelt(kind, self.chance.choice(further)))
         return uses
 
