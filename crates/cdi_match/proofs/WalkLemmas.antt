@@ -268,19 +268,6 @@ among-has which ds (n ∷ ns) y is h = by (is_listing which ds n) refl (among-ha
       | inr there ↦ more there
     ])
 
-listed-none : (which : Links) → listed_by which None ≡ []
-listed-none links.Supers = refl
-listed-none other = refl
-
--- what is not declared lists nothing
-next-undeclared : (which : Links) (ds : List Decl) (x : List ℕ) → is_some (find_decl (kind_of which) x ds) ≡ false
-    → next_of which ds x ≡ []
-next-undeclared which ds x none = grind (arith, next-listed, is_some, listed-none, false≢true)
-
-pub unlisted : (which : Links) (ds : List Decl) (x : List ℕ) → position (is_of (kind_of which) x) ds ≡ None
-    → is_listing which ds x ≡ false
-unlisted which ds x none = ap has_some (next-undeclared which ds x (sym (position-found (kind_of which) x ds) ∙ ap is_some none))
-
 some-among : (names : List (List ℕ)) (y : List ℕ) → has names y ≡ true → has_some names ≡ true
 some-among [] y h = absurd (false≢true h)
 some-among (n ∷ ns) y h = refl

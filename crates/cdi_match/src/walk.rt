@@ -116,11 +116,10 @@ fn listing_position(decls: &Decls, links: Links, name: &Name) -> Option<usize>
     ensures bound { IfSome result (λ p. p < limit) }
     ensures none { IfNone result (is_listing links decls.now name.now ≡ false) }
 {
-    let position = decls.position(links.kind(), name)?;
-    if Followers::of(links, decls.at(position)).is_empty() {
+    if following(decls, links, name).is_empty() {
         return None;
     }
-    Some(position)
+    decls.position(links.kind(), name)
 }
 
 /// Leaves out the first names whose declarations list none, and the one after them. The position of its declaration.
