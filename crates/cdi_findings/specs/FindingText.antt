@@ -25,8 +25,8 @@ text_of_file (Some file) = codes " (" ++ file ++ codes ")"
 
 -- a bean that was considered, with its file and its verdict, on a line
 abbrev pub text_of_bean : Considered → List ℕ
-text_of_bean c = codes "  " ++ string_bytes c.bean ++ text_of_file
-    (option_map (λ s. s.now) c.file) ++ codes " " ++ string_bytes c.text ++ feed ∷ []
+text_of_bean c = codes "  " ++ string_bytes c.bean ++ text_of_file (option_map (λ s. s.now) c.file)
+    ++ codes " " ++ string_bytes c.text ++ feed ∷ []
 
 abbrev pub text_of_beans : List Considered → List ℕ
 text_of_beans beans = flat_map text_of_bean beans
