@@ -1,11 +1,11 @@
 -- The declarations that ask for a bean of a type, or for who observes an event of it, are found by its word.
-use Rattle.cdi_index.proofs.Common.{◌≡◌, ℕ, Bool, true, false, ◌&&◌, ◌||◌, List, [], ◌∷◌, map, Option, Some, None, option_map, refl, sym}
-use Rattle.cdi_index.proofs.Common.{ap, ◌∙◌, list_any, Decl, DeclKey, key_at, find_decl, is_among, Qual, as_bean, made_of_bean}
-use Rattle.cdi_index.proofs.Common.{made_of_interceptor, not, ◌++◌, flat_map, option_map_or, option_to_list, bytes_eq, and_from, and_parts}
+use Rattle.cdi_index.proofs.Common.{◌≡◌, ℕ, Bool, true, false, ◌||◌, List, [], ◌∷◌, map, Option, Some, None, option_map, refl, sym}
+use Rattle.cdi_index.proofs.Common.{ap, ◌∙◌, list_any, Decl, DeclKey, key_at, find_decl, Qual, as_bean, made_of_bean}
+use Rattle.cdi_index.proofs.Common.{made_of_interceptor, ◌++◌, flat_map, option_map_or, option_to_list, bytes_eq, and_parts}
 use Rattle.cdi_index.proofs.Common.{false≢true, or_cases, or_left, or_right, list_any-append, inl, inr, key_of, kind_of, name_of_decl}
 use Rattle.cdi_index.proofs.Common.{AreDistinct, mentions, Mention, BodyOf, CallOf, EventOf, MethodOf, PointOf, StereotypeOf, TypeIn, UseOf}
 use Rattle.cdi_index.proofs.Common.{required, Word, Listing, under, same_word, word_at, asks_for, asks_in, is_asked, bytes_eq-turned}
-use Rattle.cdi_index.proofs.Common.{is_asker_at, Asked, Kept, Shelf, kept_at, stored, IsExact, IsShelf, IsSound, words_have, words_named}
+use Rattle.cdi_index.proofs.Common.{is_asker, Asked, Kept, Stored, IsExact, IsSound, words_have, words_named}
 use Rattle.cdi_index.proofs.Common.{words_named_in, words_of_uses, words_by, same-bool, arith}
 use Rattle.std.specs.Cmp.Lexicographic.{pointwise}
 use Rattle.cdi_model.specs.declared.{decl.TypeDecl.TypeDecl, decl.UseKind.UseKind, mention.TypePlace.TypePlace}
@@ -16,11 +16,11 @@ use Rattle.cdi_model.specs.declared.mention.TypePlace.TheVariants as places
 use Rattle.cdi_model.specs.declared.decl.UseKind.TheVariants as uses
 use Rattle.cdi_postings.specs.declared.word.Reason.TheVariants as reasons
 use Rattle.cdi_index.proofs.CountLemmas.{keys-distinct}
-use Rattle.cdi_index.proofs.NamedLemmas.{among-named}
+use Rattle.cdi_index.proofs.NamedLemmas.{among-interceptor, among-named}
 use Rattle.cdi_index.proofs.NextLemmas.{any-elim}
 use Rattle.cdi_index.proofs.ReplacedLemmas.{any-at, passing}
-use Rattle.cdi_index.proofs.UnderLemmas.{key-found, listed-at}
-use Rattle.cdi_index.specs.{AskedAt.is_asker, AskedAt.reason_of, declared.asked.Question.Question}
+use Rattle.cdi_index.proofs.UnderLemmas.{listed-at}
+use Rattle.cdi_index.specs.{Slots.AreAtSlots, AskedAt.reason_of, declared.asked.Question.Question}
 use Rattle.cdi_index.specs.declared.asked.Question.TheVariants as questions
 
 module _ (q : Question) (t : List ℕ) (us : List Qual) where
@@ -100,7 +100,7 @@ module _ (q : Question) (t : List ℕ) (us : List Qual) where
       → words_have (words_by ds d) w ≡ true
   unfolding asks_for mentions
   words-of-asker ds (decls.Bean b) w asking has = grind (arith, b.observers, list_any-append)
-  words-of-asker ds (decls.Interceptor i) w asking has = has
+  words-of-asker ds (decls.Interceptor i) w asking has = among-interceptor (decls.Interceptor i) w has
   words-of-asker ds (decls.Type d) w asking has = absurd (false≢true (sym (neither (extends d) (map (TypeIn places.Implements) d.implements)
       (no-type places.Extends (option_to_list d.extends)) (no-type places.Implements d.implements)) ∙ asking))
   words-of-asker ds (decls.Qualifier d) w asking has = absurd (false≢true asking)
@@ -109,12 +109,9 @@ module _ (q : Question) (t : List ℕ) (us : List Qual) where
       (false≢true (sym (neither (map StereotypeOf d.stereotypes) (of_bindings d.bindings)
       (no-stereotype d.stereotypes) (no-use uses.Binding d.bindings)) ∙ asking))
 
-  module _ (ds : List Decl) (shelf : Shelf) (listings : List Listing) (shelved : IsShelf shelf) (exact : IsExact ds (stored shelf))
-      (sound : IsSound (stored shelf) listings) (distinct : AreDistinct ds) (asked : Asked)
-      (apart : List DeclKey) (same_question : asked.question ≡ q) (same_name : asked.name.now ≡ t) (same_uses : asked.uses.now ≡ us) where
-    abbrev passes : Decl → Bool
-    passes d = not (is_among apart (key_of d)) && asks_for q t us d
-
+  module _ (ds : List Decl) (m : DeclKey → Option Stored) (kept : ℕ → Option Kept) (listings : List Listing) (at_slots : AreAtSlots m kept)
+      (exact : IsExact ds m) (sound : IsSound m listings) (distinct : AreDistinct ds) (asked : Asked)
+      (same_question : asked.question ≡ q) (same_name : asked.name.now ≡ t) (same_uses : asked.uses.now ≡ us) where
     abbrev asks : Decl → Bool
     asks d = asks_for asked.question asked.name.now asked.uses.now d
 
@@ -122,52 +119,46 @@ module _ (q : Question) (t : List ℕ) (us : List Qual) where
     asks-same d = ap (λ x. asks_for x asked.name.now asked.uses.now d) same_question
         ∙ ap (λ x. asks_for q x asked.uses.now d) same_name ∙ ap (λ x. asks_for q t x d) same_uses
 
-    -- one that asks is there
-    only : list_any (is_asker_at ds asked apart shelf) (under listings word) ≡ true → list_any passes ds ≡ true
-    only h = any-elim (is_asker_at ds asked apart shelf) (under listings word) h (λ s asker. by (kept_at shelf s) asker)
-      where
-        at : (e : Kept) (o : Option Decl) → find_decl e.key.kind e.key.name ds ≡ o → not (is_among apart e.key) ≡ true
-            → option_map_or asks o false ≡ true → list_any passes ds ≡ true
-        at e None is free none = absurd (false≢true none)
-        at e (Some d) is free found = any-at passes e.key.kind e.key.name ds d is
-            (and_from (not (is_among apart (key_of d))) (asks_for q t us d)
-            (ap (λ k. not (is_among apart k)) (sym (key-found e.key.kind e.key.name ds d is)) ∙ free)
-            (sym (asks-same d) ∙ found))
+    abbrev asks_at : ℕ → Bool
+    asks_at s = is_asker ds asked (kept s)
 
-        by : (o : Option Kept) → is_asker ds asked apart o ≡ true → list_any passes ds ≡ true
+    -- one that asks is there
+    only : list_any asks_at (under listings word) ≡ true → is_asked ds q t us ≡ true
+    only h = any-elim asks_at (under listings word) h (λ s asker. by (kept s) asker)
+      where
+        at : (e : Kept) (o : Option Decl) → find_decl e.key.kind e.key.name ds ≡ o → option_map_or asks o false ≡ true
+            → is_asked ds q t us ≡ true
+        at e None is none = absurd (false≢true none)
+        at e (Some d) is found = any-at (asks_for q t us) e.key.kind e.key.name ds d is (sym (asks-same d) ∙ found)
+
+        by : (o : Option Kept) → is_asker ds asked o ≡ true → is_asked ds q t us ≡ true
         by None none = absurd (false≢true none)
-        by (Some e) asker =
-            let parts = and_parts (not (is_among apart e.key)) (option_map_or asks (find_decl e.key.kind e.key.name ds) false) asker in
-            at e (find_decl e.key.kind e.key.name ds) refl parts.0 parts.1
+        by (Some e) asker = at e (find_decl e.key.kind e.key.name ds) refl asker
 
     -- and one that is there is listed
-    back : list_any passes ds ≡ true → list_any (is_asker_at ds asked apart shelf) (under listings word) ≡ true
+    back : is_asked ds q t us ≡ true → list_any asks_at (under listings word) ≡ true
     back h =
-        let it = passing passes ds (keys-distinct ds distinct) h in
-        let parts = and_parts (not (is_among apart (key_of it.one))) (asks_for q t us it.one) it.passes in
-        by it.one it.there parts.0 parts.1 (words-of-asker ds it.one word parts.1 (named it.one parts.1))
+        let it = passing (asks_for q t us) ds (keys-distinct ds distinct) h in
+        by it.one it.there it.passes (words-of-asker ds it.one word it.passes (named it.one it.passes))
       where
-        slot : (d : Decl) → find_decl (kind_of d) (name_of_decl d) ds ≡ Some d → not (is_among apart (key_of d)) ≡ true
-            → asks_for q t us d ≡ true → (s : ℕ) (e : Kept) → kept_at shelf s ≡ Some e → e.key ≡ key_of d
-            → is_asker_at ds asked apart shelf s ≡ true
-        slot d there free asking s e kept key =
-            ap (is_asker ds asked apart) kept
-            ∙ ap (λ (k : DeclKey). not (is_among apart k) && option_map_or asks (find_decl k.kind k.name ds) false) key
-            ∙ and_from (not (is_among apart (key_of d))) (option_map_or asks (find_decl (kind_of d) (name_of_decl d) ds) false) free
-            (ap (λ o. option_map_or asks o false) there ∙ asks-same d ∙ asking)
+        slot : (d : Decl) → find_decl (kind_of d) (name_of_decl d) ds ≡ Some d → asks_for q t us d ≡ true → (s : ℕ) (e : Kept)
+            → kept s ≡ Some e → e.key ≡ key_of d → asks_at s ≡ true
+        slot d there asking s e at key =
+            ap (is_asker ds asked) at
+            ∙ ap (λ (k : DeclKey). option_map_or asks (find_decl k.kind k.name ds) false) key
+            ∙ ap (λ o. option_map_or asks o false) there ∙ asks-same d ∙ asking
 
         -- what is made of a declaration that has words
-        by : (d : Decl) → find_decl (kind_of d) (name_of_decl d) ds ≡ Some d → not (is_among apart (key_of d)) ≡ true
-            → asks_for q t us d ≡ true → words_have (words_by ds d) word ≡ true
-            → list_any (is_asker_at ds asked apart shelf) (under listings word) ≡ true
-        by (decls.Bean b) there free asking has = listed-at ds shelf listings shelved exact sound distinct word (key_at kinds.Bean b.name)
-            (made_of_bean ds b) (is_asker_at ds asked apart shelf) (ap (λ o. option_map (made_of_bean ds) (as_bean o)) there) has
-            (λ s e kept key made. slot (decls.Bean b) there free asking s e kept key)
-        by (decls.Interceptor i) there free asking has = listed-at ds shelf listings shelved exact sound distinct word
-            (key_at kinds.Interceptor i.name) (made_of_interceptor (decls.Interceptor i)) (is_asker_at ds asked apart shelf)
+        by : (d : Decl) → find_decl (kind_of d) (name_of_decl d) ds ≡ Some d → asks_for q t us d ≡ true
+            → words_have (words_by ds d) word ≡ true → list_any asks_at (under listings word) ≡ true
+        by (decls.Bean b) there asking has = listed-at ds m kept listings at_slots exact sound distinct word (key_at kinds.Bean b.name)
+            (made_of_bean ds b) asks_at (ap (λ o. option_map (made_of_bean ds) (as_bean o)) there) has
+            (λ s e at key made. slot (decls.Bean b) there asking s e at key)
+        by (decls.Interceptor i) there asking has = listed-at ds m kept listings at_slots exact sound distinct word
+            (key_at kinds.Interceptor i.name) (made_of_interceptor (decls.Interceptor i)) asks_at
             (ap (option_map made_of_interceptor) there) has
-            (λ s e kept key made. slot (decls.Interceptor i) there free asking s e kept key)
-        by other there free asking has = absurd (false≢true has)
+            (λ s e at key made. slot (decls.Interceptor i) there asking s e at key)
+        by other there asking has = absurd (false≢true has)
 
-    pub askers-are : list_any (is_asker_at ds asked apart shelf) (under listings word) ≡ is_asked ds q t us apart
-    askers-are = same-bool (list_any (is_asker_at ds asked apart shelf) (under listings word)) (is_asked ds q t us apart) only back
+    pub askers-are : list_any asks_at (under listings word) ≡ is_asked ds q t us
+    askers-are = same-bool (list_any asks_at (under listings word)) (is_asked ds q t us) only back

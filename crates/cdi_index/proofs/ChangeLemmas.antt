@@ -1,6 +1,6 @@
 -- Changes that are taken over one after another, and those that are made of declarations.
 use Rattle.cdi_index.proofs.Common.{◌≡◌, ℕ, Bool, true, false, ◌&&◌, ◌||◌, List, [], ◌∷◌, map, Option, Some, None, option_map, refl, sym}
-use Rattle.cdi_index.proofs.Common.{ap, ◌∙◌, list_any, Decl, Kind, DeclKey, same_key, is_among, key_exact, Made, made_of, ◌++◌, false≢true}
+use Rattle.cdi_index.proofs.Common.{ap, ◌∙◌, list_any, Decl, Kind, DeclKey, same_key, keys_changed, is_among, key_exact, Made, made_of, ◌++◌, false≢true}
 use Rattle.cdi_index.proofs.Common.{suc, ◌+◌, cond, length, filter, is_some, slice_get, same_key_equiv, Change, is_of_kind, Stored, made_in}
 use Rattle.cdi_index.proofs.Common.{applied, change_of, is_made, stored_as, any-same, arith}
 use Rattle.std.proofs.Math.Nat.{add-zero, add-suc, suc-add}
@@ -24,7 +24,7 @@ pub one-stored : (n s : ℕ) (x y : Made) → stored_as_one n x ≡ stored_as_on
 unfolding slot-or made-or
 one-stored n s x y e = (ap (slot-or n) e, ap (made-or x) e)
 
-slide : (n m : ℕ) → suc n + m ≡ n + suc m
+pub slide : (n m : ℕ) → suc n + m ≡ n + suc m
 slide n m = suc-add n m ∙ sym (add-suc n m)
 
 applied-push : (n : ℕ) (cs : List Change) (c : Change) (m : StoredBy) (k : DeclKey)
@@ -43,6 +43,31 @@ pub applied-next : (n : ℕ) (cs rest : List Change) (c : Change) (m o : StoredB
     → (k : DeclKey) → applied n rest o k ≡ applied n cs m k
 applied-next n cs rest c m o is made k = grind (arith, c.key, applied-same, applied-push)
 
+-- what is kept of a declaration is at the slot of a change, or where it was
+pub data Comes (n : ℕ) (cs : List Change) (m : StoredBy) (k : DeclKey) (s : ℕ) (made : Made) : Type 0 where
+  Anew : (i : ℕ) (c : Change) → slice_get cs i ≡ Some c → s ≡ n + i → c.key ≡ k → c.made ≡ Some made → Comes n cs m k s made
+  Before : is_among (keys_changed cs) k ≡ false → m k ≡ Some (s, made) → Comes n cs m k s made
+
+pub comes : (n : ℕ) (cs : List Change) (m : StoredBy) (k : DeclKey) (s : ℕ) (made : Made) → applied n cs m k ≡ Some (s, made)
+    → Comes n cs m k s made
+comes n [] m k s made e = Before refl e
+comes n (c ∷ cs) m k s made e = by (same_key c.key k) refl e (comes (suc n) cs m k s made)
+  where
+    here : (o : Option Made) → c.made ≡ o → same_key c.key k ≡ true → option_map {U = Stored} (λ x. (n, x)) o ≡ Some (s, made)
+        → Comes n (c ∷ cs) m k s made
+    here None is one f = absurd (let none : None ≡ Some (s, made) = f in cc)
+    here (Some x) is one f =
+        let at = one-stored n s x made f in
+        Anew 0 c refl (sym at.0 ∙ sym (add-zero n)) (key_exact c.key k one) (is ∙ ap Some at.1)
+
+    by : (b : Bool) → same_key c.key k ≡ b → cond b (stored_as n c) (applied (suc n) cs m k) ≡ Some (s, made)
+        → (applied (suc n) cs m k ≡ Some (s, made) → Comes (suc n) cs m k s made) → Comes n (c ∷ cs) m k s made
+    by true is f more = here c.made refl is f
+    by false is f more = elim (more f) [
+      | Anew i d at slot key was ↦ Anew (suc i) d at (slot ∙ slide n i) key was
+      | Before none was ↦ Before (ap (λ b. b || is_among (keys_changed cs) k) is ∙ none) was
+    ]
+
 -- ---- changes that are made of the declarations of some keys
 
 made-as : (n : ℕ) (c : Change) → made_in (stored_as n c) ≡ c.made
@@ -60,32 +85,6 @@ applied-made n es (l ∷ ks) m k = by (same_key l k) refl (applied-made (suc n) 
         ≡ cond (b || is_among ks k) (made_of es k) (made_in (m k))
     by true e more = made-as n (change_of es l) ∙ ap (made_of es) (key_exact l k e)
     by false e more = more
-
--- and it is kept at the slot of the change, or where it was
-pub data Comes (n : ℕ) (es : List Decl) (ks : List DeclKey) (m : StoredBy) (k : DeclKey) (s : ℕ) (made : Made) : Type 0 where
-  Anew : (i : ℕ) (l : DeclKey) → slice_get ks i ≡ Some l → s ≡ n + i → made_of es l ≡ Some made → Comes n es ks m k s made
-  Before : is_among ks k ≡ false → m k ≡ Some (s, made) → Comes n es ks m k s made
-
-pub applied-comes : (n : ℕ) (es : List Decl) (ks : List DeclKey) (m : StoredBy) (k : DeclKey) (s : ℕ) (made : Made)
-    → applied n (map (change_of es) ks) m k ≡ Some (s, made) → Comes n es ks m k s made
-applied-comes n es [] m k s made e = Before refl e
-applied-comes n es (l ∷ ks) m k s made e = by (same_key l k) refl e (applied-comes (suc n) es ks m k s made)
-  where
-    here : (o : Option Made) → made_of es l ≡ o → option_map {U = Stored} (λ x. (n, x)) o ≡ Some (s, made) → Comes n es (l ∷ ks) m k s made
-    here None is f = absurd (let none : None ≡ Some (s, made) = f in cc)
-    here (Some x) is f =
-        let one = one-stored n s x made f in
-        Anew 0 l refl (sym one.0 ∙ sym (add-zero n)) (is ∙ ap Some one.1)
-
-    by : (b : Bool) → same_key l k ≡ b
-        → cond b (stored_as n (change_of es l)) (applied (suc n) (map (change_of es) ks) m k) ≡ Some (s, made)
-        → (applied (suc n) (map (change_of es) ks) m k ≡ Some (s, made) → Comes (suc n) es ks m k s made)
-        → Comes n es (l ∷ ks) m k s made
-    by true is f more = here (made_of es l) refl f
-    by false is f more = elim (more f) [
-      | Anew i j at slot was ↦ Anew (suc i) j at (slot ∙ slide n i) was
-      | Before none was ↦ Before (ap (λ b. b || is_among ks k) is ∙ none) was
-    ]
 
 pub count-made : (kind : Kind) (es : List Decl) (ks : List DeclKey)
     → length (filter (is_made kind) (map (change_of es) ks)) ≡ length (filter (λ k. is_of_kind kind k && is_some (made_of es k)) ks)

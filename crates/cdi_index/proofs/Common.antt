@@ -1,7 +1,7 @@
 -- The names that several proofs cite, passed on from one place. Declares nothing.
 pub use Rattle.std.proofs.Common.{◌≡◌, Bool, true, false, ◌||◌, List, [], ◌∷◌, map, Option, refl, sym, ap, ◌∙◌, ◌++◌, ◌+◌, cond, ℕ, ◌&&◌}
 pub use Rattle.std.proofs.Common.{Some, None, option_map, inr, is_some, suc, length, filter, slice_get, zero, get_or, position, inl, ◌<◌}
-pub use Rattle.std.proofs.Common.{nat_eq, ◌⊎◌, take, ◌≢◌, arith, ◌≤◌, length-append, flat_map, Result, Ok, Err, not, subst, drop, vec_len}
+pub use Rattle.std.proofs.Common.{nat_eq, ◌⊎◌, take, ◌≢◌, arith, ◌≤◌, length-append, flat_map, Result, Ok, Err, not, subst, drop, vec_len, ◌-◌, nat_lt}
 pub use Rattle.std.specs.List.{list_any, AllByRecursion}
 unfoldable pub use Rattle.std.specs.List.{IsDistinct}
 pub use Rattle.std.proofs.lemmas.Bool.{or_parts, or_left, false≢true, or_right, and_from, or_cases, eqb-true, and_parts}
@@ -72,6 +72,6 @@ pub use Rattle.cdi_index.specs.Under.{words_by, beans_under, has_one, is_at, rec
 pub use Rattle.cdi_index.specs.Under.{observes_one, is_sought}
 pub use Rattle.cdi_index.specs.Asked.{asks_in, is_asked}
 unfoldable pub use Rattle.cdi_index.specs.Asked.{asks_for}
-pub use Rattle.cdi_index.specs.AskedAt.{is_asker_at}
+pub use Rattle.cdi_index.specs.AskedAt.{is_asker}
 pub use Rattle.cdi_index.specs.declared.asked.Asked.{Asked}
 pub use Rattle.cdi_index.specs.State.{State}

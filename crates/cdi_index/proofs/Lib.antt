@@ -4,6 +4,7 @@ pub mod ChangeLemmas
 mod AffectedLemmas
 mod CountLemmas
 mod ShelfLemmas
+mod KeptAtLemmas
 mod LoopLemmas
 mod NextLemmas
 mod InstallLemmas

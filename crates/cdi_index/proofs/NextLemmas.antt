@@ -5,11 +5,12 @@ use Rattle.cdi_index.proofs.Common.{Made, is_kept, made_of, reads, and_from, and
 use Rattle.cdi_index.proofs.Common.{under, Kept, Shelf, kept_at, stored, IsExact, IsShelf, IsSound, words_have, ◌+◌, length, filter}
 use Rattle.cdi_index.proofs.Common.{slice_get, same_key_equiv, Change, Stored, made_in, applied, change_of, is_made, ◌<◌, nat_eq}
 use Rattle.cdi_index.proofs.Common.{IsDistinct, computed, is_recorded, ◌≤◌, is_listed, slot_of, keys_changed, keys_turned, turned, Keeps}
-use Rattle.cdi_index.proofs.Common.{classes_have, has_word, lookup, eqb-true, get, spare, limit, is_reader_among, stored_at, touches}
+use Rattle.cdi_index.proofs.Common.{classes_have, has_word, lookup, eqb-true, get, spare, is_reader_among, stored_at, touches}
 use Rattle.cdi_index.proofs.Common.{word_of, IsNext, AreReplaced, any-same, any-more, same-bool, arith}
 use Rattle.std.proofs.Common.{◌^◌}
 use Rattle.cdi_index.proofs.AffectedLemmas.{hits, made-stays}
-use Rattle.cdi_index.proofs.ChangeLemmas.{among-turned, applied-comes, applied-made, Anew, Before, StoredBy}
+use Rattle.std.proofs.lemmas.Option.{slice_get-map}
+use Rattle.cdi_index.proofs.ChangeLemmas.{among-turned, applied-made, comes, Anew, Before, StoredBy}
 use Rattle.cdi_index.proofs.CountLemmas.{count-changes}
 use Rattle.cdi_index.proofs.ShelfLemmas.{found}
 use Rattle.cdi_index.specs.{Kept.is_reader, Kept.IsFreeFrom, declared.prepare.Next.Next}
@@ -89,10 +90,20 @@ module _ (ds : List Decl) (edits : List Edit) (ks : List DeclKey) (m : StoredBy)
   exact-next k = grind (arith, applied-made, unaffected)
 
   pub sound-next : IsSound (applied first (map (change_of es) ks) m) more
-  sound-next w k s made at has = elim (applied-comes first es ks m k s made at) [
-    | Anew i l there slot is ↦ ap (is_listed more w) slot ∙ listed w i l there (ap (λ o. has_word o w) is ∙ has)
+  sound-next w k s made at has = elim (comes first (map (change_of es) ks) m k s made at) [
+    | Anew i c there slot key is ↦ ap (is_listed more w) slot ∙ of-key i c made there is has (slice_get ks i) refl
     | Before none was ↦ kept w s (sound w k s made was has)
   ]
+    where
+      of-key : (i : ℕ) (c : Change) (made : Made) → slice_get (map (change_of es) ks) i ≡ Some c → c.made ≡ Some made
+          → has_word (Some made) w ≡ true → (o : Option DeclKey) → slice_get ks i ≡ o → is_listed more w (first + i) ≡ true
+      of-key i c made there is has None none =
+          absurd (let no : None ≡ Some c = ap (option_map (change_of es)) (sym none) ∙ sym (slice_get-map (change_of es) ks i) ∙ there in cc)
+      of-key i c made there is has (Some l) here =
+          let one : Some (change_of es l) ≡ Some c =
+          ap (option_map (change_of es)) (sym here) ∙ sym (slice_get-map (change_of es) ks i) ∙ there in
+          let same : change_of es l ≡ c = cc in
+          listed w i l here (ap (λ o. has_word o w) (ap (λ (x : Change). x.made) same ∙ is) ∙ has)
 
 -- a count, of what was made
 pub counted-from : (which : Kind) → is_recorded which ≡ true → (ds eds : List Decl) (edits : List Edit) (ekeys ks slice : List DeclKey)
@@ -160,16 +171,15 @@ module _ (ds eds : List Decl) (edits : List Edit) (ekeys ks slice : List DeclKey
     exact-new : IsExact ds (stored new)
     exact-new = exact-same old new slots kept ds exact
 
-    pub prepared : AreDistinct next.decls → length next.decls ≤ limit → IsFreeFrom next.first old
+    pub prepared : AreDistinct next.decls → IsFreeFrom next.first old
         → next.first + length next.changes.items < 2 ^ 64
         → length next.changes.items ≤ spare new.slots → length next.changes.items ≤ spare new.kept
-        → keys_changed next.changes.items ≡ next.affected.keys
+        → keys_changed next.changes.items ≡ next.affected.keys → IsDistinct same_key next.affected.keys
         → AreReplaced next.decls (turned next.turns.list.items (get same_key new.replaced))
         → length next.turns.list.items ≤ spare new.replaced → keys_turned next.turns.list.items ≡ next.turns.beans.keys
         → IsNext new more next
-    prepared distinct few free numbers room_slots room_kept affected turns room_turns beans = record {
+    prepared distinct free numbers room_slots room_kept affected once turns room_turns beans = record {
       distinct = distinct;
-      few = few;
       exact = λ k. ap (λ cs. made_in (applied next.first cs (stored new) k)) changed
           ∙ exact-next ds edits ks (stored new) next.first listings more exact-new sound-old keeps all-hits listed-new k
           ∙ ap (λ d. made_of d k) (sym (decls ∙ made));
@@ -180,6 +190,7 @@ module _ (ds eds : List Decl) (edits : List Edit) (ekeys ks slice : List DeclKey
       slots = room_slots;
       kept = room_kept;
       affected = affected;
+      once = once;
       turned = turns;
       replaced = room_turns;
       beans = beans;

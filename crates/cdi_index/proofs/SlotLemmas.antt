@@ -10,6 +10,7 @@ use Rattle.std.proofs.lemmas.{Bool.ne_eqb, List.append-nil}
 use Rattle.cdi_model.proofs.PositionLemmas.{name-found, position-found}
 use Rattle.cdi_model.specs.declared.decl.Decl.TheVariants as decls
 use Rattle.cdi_model.specs.declared.decl.Kind.TheVariants as kinds
+use Rattle.cdi_index.proofs.KeptAtLemmas.{shelf-at}
 use Rattle.cdi_index.proofs.ReplacedLemmas.{lent-of}
 use Rattle.cdi_index.proofs.UnderLemmas.{key-found, made-at, marked-are, none-pass, records-of-bean, some-made}
 
@@ -110,7 +111,7 @@ module _ (ds : List Decl) (shelf : Shelf) (listings : List Listing) (shelved : I
   -- a declaration has one of the words just where its place is that of the slot
   at-slot : (i : ℕ) → passes i ≡ is_at ds w (kept_at shelf s) i
   at-slot i =
-      sym (marked-are ds shelf listings shelved exact sound distinct words i) ∙ only (λ v t. is_at ds v (kept_at shelf t) i)
+      sym (marked-are ds (stored shelf) (kept_at shelf) listings (shelf-at shelf shelved) exact sound distinct words i) ∙ only (λ v t. is_at ds v (kept_at shelf t) i)
 
   none-under : ((i : ℕ) → is_at ds w (kept_at shelf s) i ≡ false) → [] ≡ beans_under ds words
   none-under none = sym (ap (flat_map (entries ds))
@@ -124,7 +125,7 @@ module _ (ds : List Decl) (shelf : Shelf) (listings : List Listing) (shelved : I
       by (Some e) there = cases (words_have e.made.words w) refl (position (is_of e.key.kind e.key.name) ds) refl
         where
           made : made_of ds e.key ≡ Some e.made
-          made = made-at ds shelf listings shelved exact sound distinct s e there
+          made = made-at ds (stored shelf) (kept_at shelf) listings (shelf-at shelf shelved) exact sound distinct s e there
 
           places : (i : ℕ) → is_at ds w (kept_at shelf s) i
               ≡ option_map_or (λ j. nat_eq j i) (cond (words_have e.made.words w) (position (is_of e.key.kind e.key.name) ds) None) false

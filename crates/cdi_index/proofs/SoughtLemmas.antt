@@ -1,6 +1,6 @@
 -- The beans that are sought are among those of the declarations that have the words.
 use Rattle.cdi_index.proofs.Common.{◌≡◌, ℕ, Bool, true, false, ◌||◌, List, [], ◌∷◌, map, Option, Some, None, refl, sym, ap, ◌∙◌, list_any}
-use Rattle.cdi_index.proofs.Common.{or_parts, BeanDecl, Decl, Qual, own_records, Effective, ◌++◌, flat_map, option_to_list, bytes_eq}
+use Rattle.cdi_index.proofs.Common.{name_of_use, or_parts, BeanDecl, Decl, Qual, own_records, Effective, ◌++◌, flat_map, option_to_list, bytes_eq}
 use Rattle.cdi_index.proofs.Common.{list_any-append, Mention, BodyOf, CallOf, EventOf, MethodOf, PointOf, StereotypeOf, TypeIn, UseOf}
 use Rattle.cdi_index.proofs.Common.{required, Word, same_word, word_at, words_have, words_named, words_named_in, bytes_eq-turned}
 use Rattle.cdi_index.proofs.Common.{words_of_observer, words_of_record, words_of_uses, suc, cond, filter, slice_get, words_written_in, has}
@@ -12,7 +12,7 @@ use Rattle.cdi_model.specs.declared.decl.ObserverDecl.{ObserverDecl}
 use Rattle.cdi_model.specs.declared.decl.Decl.TheVariants as decls
 use Rattle.cdi_model.specs.declared.decl.UseKind.TheVariants as uses
 use Rattle.cdi_postings.specs.declared.word.Reason.TheVariants as reasons
-use Rattle.cdi_index.specs.Made.{words_of_bean, words_of_bindings}
+use Rattle.cdi_index.specs.Made.{words_of_bean, words_of_bindings, words_of_interceptor}
 
 -- ---- where others give nothing that is sought
 
@@ -158,6 +158,11 @@ none-of-named : (d : Decl) (t : List ℕ) → words_have (words_named d) (word_a
 unfolding words_named
 none-of-named d t = grind (arith, words-append, none-in-any, none-written-any)
 
+none-intercepting : (us : List Qual) (t : List ℕ)
+    → words_have (map (λ u. word_at reasons.Intercepts (name_of_use u)) us) (word_at reasons.Observes t) ≡ false
+none-intercepting [] t = refl
+none-intercepting (u ∷ us) t = none-intercepting us t
+
 observed : (observers : List ObserverDecl) (t : List ℕ)
     → words_have (flat_map words_of_observer observers) (word_at reasons.Observes t)
     ≡ list_any (λ o. bytes_eq t o.event_type) observers
@@ -202,12 +207,16 @@ observing-one ds types (decls.Bean b) =
     ∙ in-turn b.observers types
 observing-one ds types (decls.Interceptor d) = none-among types
   where
-    none-among : (types : List (List ℕ))
-        → list_any (words_have (words_named (decls.Interceptor d))) (map (word_at reasons.Observes) types) ≡ false
+    words : List Word
+    words = words_of_interceptor (decls.Interceptor d)
+
+    none-had-by : (t : List ℕ) → words_have words (word_at reasons.Observes t) ≡ false
+    none-had-by t = grind (arith, d.bindings, words-append, none-intercepting, none-of-named)
+
+    none-among : (types : List (List ℕ)) → list_any (words_have words) (map (word_at reasons.Observes) types) ≡ false
     none-among [] = refl
     none-among (t ∷ types) =
-        ap (λ b. b || list_any (words_have (words_named (decls.Interceptor d))) (map (word_at reasons.Observes) types))
-        (none-of-named (decls.Interceptor d) t) ∙ none-among types
+        ap (λ b. b || list_any (words_have words) (map (word_at reasons.Observes) types)) (none-had-by t) ∙ none-among types
 observing-one ds types other = none-had (map (word_at reasons.Observes) types)
 
 pub of-observers : (ds : List Decl) (types : List (List ℕ))

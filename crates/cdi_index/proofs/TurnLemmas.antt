@@ -1,5 +1,5 @@
 -- Turns that are taken over one after another, and those of some beans.
-use Rattle.cdi_index.proofs.Common.{◌≡◌, List, [], ◌∷◌, map, Option, refl, ap, list_any, DeclKey, same_key, key_exact, Effective, ◌++◌, ◌+◌}
+use Rattle.cdi_index.proofs.Common.{◌≡◌, List, [], ◌∷◌, map, Option, refl, ap, list_any, DeclKey, same_key, key_exact, Effective, ◌++◌}
 use Rattle.cdi_index.proofs.Common.{cond, same_key_equiv, Turn, turned, arith}
 
 abbrev pub RecordsOf : Type 0

@@ -2,16 +2,18 @@
 use Rattle.cdi_index.proofs.Common.{◌≡◌, ℕ, Bool, true, false, ◌||◌, List, [], ◌∷◌, Option, Some, None, option_map, refl, sym, ap, ◌∙◌}
 use Rattle.cdi_index.proofs.Common.{list_any, BeanDecl, Decl, Kind, DeclKey, key_at, same_key, find_decl, key_exact, as_bean, Made, made_of}
 use Rattle.cdi_index.proofs.Common.{made_of_bean, made_of_interceptor, ◌++◌, flat_map, option_map_or, false≢true, or_right, key_of}
-use Rattle.cdi_index.proofs.Common.{AreDistinct, Word, Listing, under, Kept, Shelf, kept_at, stored, IsExact, IsShelf, IsSound, words_have}
-use Rattle.cdi_index.proofs.Common.{words_by, suc, ◌+◌, cond, filter, same_key_equiv, Stored, made_in, nat_eq, arith, slot_of, position}
+use Rattle.cdi_index.proofs.Common.{AreDistinct, Word, Listing, under, Kept, IsExact, IsSound, words_have}
+use Rattle.cdi_index.proofs.Common.{words_by, suc, ◌+◌, cond, filter, same_key_equiv, Stored, made_in, nat_eq, arith, position}
 use Rattle.cdi_index.proofs.Common.{classes_have, keys_have, eqb-true, is_of, records_in, position-there, entries, made_by, beans_under}
 use Rattle.cdi_index.proofs.Common.{has_one, is_at, records_at, is_marked, marked_from, is_at_slots, is_at_words, slice_get, any-more}
 use Rattle.cdi_index.proofs.Common.{nat_eq-refl, same-bool}
 use Rattle.cdi_model.specs.declared.decl.Decl.TheVariants as decls
 use Rattle.cdi_model.specs.declared.decl.Kind.TheVariants as kinds
+use Rattle.cdi_effective.specs.Beans.{effective}
+use Rattle.cdi_effective.specs.{Bindings.class_bindings, Disposers.find_bean, Records.records_declared}
 use Rattle.cdi_effective.proofs.PlaceLemmas.{own-found, own-place, own-position, place-found}
 use Rattle.cdi_index.proofs.NextLemmas.{any-elim}
-use Rattle.cdi_index.proofs.ShelfLemmas.{found}
+use Rattle.cdi_index.specs.{Slots.AreAtSlots, Under.bindings_in, Under.first_bindings}
 
 -- ---- the records at a position
 
@@ -19,6 +21,15 @@ pub records-of-bean : (ds : List Decl) (p : ℕ) (bean : BeanDecl) → AreDistin
     → records_in ds bean.name ≡ records_at ds p
 unfolding records_in
 records-of-bean ds p bean distinct at = grind (arith, place-found, own-place)
+
+-- the bindings of the first record of a declaration are those of its class
+pub records_bound : (ds : List Decl) (class : List ℕ) → first_bindings (records_in ds class) ≡ bindings_in ds class
+unfolding records_in effective
+records_bound ds class = by (find_bean class ds)
+  where
+    by : (o : Option BeanDecl) → first_bindings (records_declared ds o) ≡ option_map_or (class_bindings ds) o []
+    by None = refl
+    by (Some b) = refl
 
 -- a declaration that is found has the key
 pub key-found : (kind : Kind) (name : List ℕ) (ds : List Decl) (d : Decl) → find_decl kind name ds ≡ Some d → key_at kind name ≡ key_of d
@@ -94,44 +105,43 @@ of-decl ds kinds.Interceptor name made w p is has at = by (find_decl kinds.Inter
     by (Some (decls.Binding d)) e f = other (decls.Binding d) refl e
     by (Some (decls.Stereotype d)) e f = other (decls.Stereotype d) refl e
 
-module _ (ds : List Decl) (shelf : Shelf) (listings : List Listing) (shelved : IsShelf shelf) (exact : IsExact ds (stored shelf))
-    (sound : IsSound (stored shelf) listings) (distinct : AreDistinct ds) where
-  pub made-at : (s : ℕ) (e : Kept) → kept_at shelf s ≡ Some e → made_of ds e.key ≡ Some e.made
-  made-at s e there = grind (arith, e.key)
+module _ (ds : List Decl) (m : DeclKey → Option Stored) (kept : ℕ → Option Kept) (listings : List Listing) (at_slots : AreAtSlots m kept)
+    (exact : IsExact ds m) (sound : IsSound m listings) (distinct : AreDistinct ds) where
+  pub made-at : (s : ℕ) (e : Kept) → kept s ≡ Some e → made_of ds e.key ≡ Some e.made
+  made-at s e there = sym (exact e.key) ∙ ap made_in (at_slots.owned s e there)
 
   one-decl : (p : ℕ) (d e : Decl) → slice_get ds p ≡ Some d → slice_get ds p ≡ Some e → e ≡ d
   one-decl p d e first second = let same : Some e ≡ Some d = sym second ∙ first in cc
 
   -- a slot that marks a position is of the declaration there, which has the word
-  marks-only : (p s : ℕ) (w : Word) → is_at ds w (kept_at shelf s) p ≡ true
+  marks-only : (p s : ℕ) (w : Word) → is_at ds w (kept s) p ≡ true
       → (d : Decl) × (slice_get ds p ≡ Some d) × (words_have (words_by ds d) w ≡ true)
   marks-only p s w h = grind (arith, is-at, of-decl, made-at)
 
   -- what is made of a declaration has a word, so a test that says so of its slot is true of one that is listed
-  pub listed-at : (w : Word) (k : DeclKey) (m : Made) (test : ℕ → Bool) → made_of ds k ≡ Some m → words_have m.words w ≡ true
-      → ((s : ℕ) (e : Kept) → kept_at shelf s ≡ Some e → e.key ≡ k → e.made ≡ m → test s ≡ true) → list_any test (under listings w) ≡ true
-  listed-at w k m test is has says = by (stored shelf k) refl (exact k ∙ is)
+  pub listed-at : (w : Word) (k : DeclKey) (x : Made) (test : ℕ → Bool) → made_of ds k ≡ Some x → words_have x.words w ≡ true
+      → ((s : ℕ) (e : Kept) → kept s ≡ Some e → e.key ≡ k → e.made ≡ x → test s ≡ true) → list_any test (under listings w) ≡ true
+  listed-at w k x test is has says = by (m k) refl (exact k ∙ is)
     where
-      by : (o : Option Stored) → stored shelf k ≡ o → made_in o ≡ Some m → list_any test (under listings w) ≡ true
-      by None here none = absurd (let no : None ≡ Some m = none in cc)
+      by : (o : Option Stored) → m k ≡ o → made_in o ≡ Some x → list_any test (under listings w) ≡ true
+      by None here none = absurd (let no : None ≡ Some x = none in cc)
       by (Some (s, made)) here one =
-          let same : made ≡ m = some-made made m one in
-          let words : words_have made.words w ≡ true = ap (λ (x : Made). words_have x.words w) same ∙ has in
-          let it = found (slot_of shelf) (kept_at shelf) shelved.owns k s made here in
+          let same : made ≡ x = some-made made x one in
+          let words : words_have made.words w ≡ true = ap (λ (y : Made). words_have y.words w) same ∙ has in
           any-more (nat_eq s) test (under listings w)
-          (λ t equal. ap test (sym (eqb-true s t equal)) ∙ says s it.entry it.there it.key (it.is ∙ same))
+          (λ t equal. ap test (sym (eqb-true s t equal)) ∙ says s (record { key = k; made = made }) (at_slots.there k s made here) refl same)
           (sound w k s made here
           (or_right (keys_have made.reads w) (classes_have made.replaces w || words_have made.words w)
           (or_right (classes_have made.replaces w) (words_have made.words w) words)))
 
   -- so its position is marked by its slot
-  marks-from : (p : ℕ) (w : Word) (k : DeclKey) (m : Made) → made_of ds k ≡ Some m → position (is_of k.kind k.name) ds ≡ Some p
-      → words_have m.words w ≡ true → is_at_slots ds shelf w (under listings w) p ≡ true
-  marks-from p w k m is place has = grind (arith, listed-at, at-is)
+  marks-from : (p : ℕ) (w : Word) (k : DeclKey) (x : Made) → made_of ds k ≡ Some x → position (is_of k.kind k.name) ds ≡ Some p
+      → words_have x.words w ≡ true → is_at_slots ds kept w (under listings w) p ≡ true
+  marks-from p w k x is place has = grind (arith, listed-at, at-is)
 
   -- a declaration that has a word is marked by its slot
   marks-if : (p : ℕ) (d : Decl) (w : Word) → slice_get ds p ≡ Some d → words_have (words_by ds d) w ≡ true
-      → is_at_slots ds shelf w (under listings w) p ≡ true
+      → is_at_slots ds kept w (under listings w) p ≡ true
   marks-if p (decls.Bean b) w at has =
       let place = own-place ds p b distinct at in
       marks-from p w (key_at kinds.Bean b.name) (made_of_bean ds b)
@@ -144,33 +154,33 @@ module _ (ds : List Decl) (shelf : Shelf) (listings : List Listing) (shelved : I
   marks-if p (decls.Type d) w at has = absurd (false≢true has)
   marks-if p other w at has = absurd (false≢true has)
 
-  abbrev at_slots : ℕ → Word → Bool
-  at_slots p w = is_at_slots ds shelf w (under listings w) p
+  abbrev marks : ℕ → Word → Bool
+  marks p w = is_at_slots ds kept w (under listings w) p
 
   -- the marked positions are those of the declarations that have one of the words
   pub marked-are : (words : List Word) (p : ℕ)
-      → is_at_words ds shelf listings words p ≡ option_map_or (has_one ds words) (slice_get ds p) false
-  marked-are words p = same-bool (is_at_words ds shelf listings words p) (option_map_or (has_one ds words) (slice_get ds p) false) only back
+      → is_at_words ds kept listings words p ≡ option_map_or (has_one ds words) (slice_get ds p) false
+  marked-are words p = same-bool (is_at_words ds kept listings words p) (option_map_or (has_one ds words) (slice_get ds p) false) only back
     where
-      only : is_at_words ds shelf listings words p ≡ true → option_map_or (has_one ds words) (slice_get ds p) false ≡ true
+      only : is_at_words ds kept listings words p ≡ true → option_map_or (has_one ds words) (slice_get ds p) false ≡ true
       only h = by (slice_get ds p) refl
         where
           by : (o : Option Decl) → slice_get ds p ≡ o → option_map_or (has_one ds words) o false ≡ true
-          by None none = any-elim (at_slots p) words h
-              (λ w at. any-elim (λ s. is_at ds w (kept_at shelf s) p) (under listings w) at (λ s one.
+          by None none = any-elim (marks p) words h
+              (λ w at. any-elim (λ s. is_at ds w (kept s) p) (under listings w) at (λ s one.
               let it = marks-only p s w one in absurd (let no : None ≡ Some it.0 = sym none ∙ it.1 in cc)))
-          by (Some d) there = any-more (at_slots p) (words_have (words_by ds d)) words
-              (λ w at. any-elim (λ s. is_at ds w (kept_at shelf s) p) (under listings w) at (λ s one.
+          by (Some d) there = any-more (marks p) (words_have (words_by ds d)) words
+              (λ w at. any-elim (λ s. is_at ds w (kept s) p) (under listings w) at (λ s one.
               let it = marks-only p s w one in
               ap (λ x. words_have (words_by ds x) w) (one-decl p it.0 d it.1 there) ∙ it.2)) h
 
-      back : option_map_or (has_one ds words) (slice_get ds p) false ≡ true → is_at_words ds shelf listings words p ≡ true
+      back : option_map_or (has_one ds words) (slice_get ds p) false ≡ true → is_at_words ds kept listings words p ≡ true
       back h = by (slice_get ds p) refl h
         where
           by : (o : Option Decl) → slice_get ds p ≡ o → option_map_or (has_one ds words) o false ≡ true
-              → is_at_words ds shelf listings words p ≡ true
+              → is_at_words ds kept listings words p ≡ true
           by None none f = absurd (false≢true f)
-          by (Some d) there f = any-more (words_have (words_by ds d)) (at_slots p) words (λ w has. marks-if p d w there has) f
+          by (Some d) there f = any-more (words_have (words_by ds d)) (marks p) words (λ w has. marks-if p d w there has) f
 
 -- ---- a walk over marked positions
 

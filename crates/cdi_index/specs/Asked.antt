@@ -1,18 +1,13 @@
 -- Which declarations ask for a bean of a type, or for the observer methods of an event of it, with some uses of qualifiers.
-use Rattle.std.specs.Prelude.{ℕ, Bool, false, not, ◌&&◌, List}
+use Rattle.std.specs.Prelude.{ℕ, Bool, false, ◌&&◌, List}
 use Rattle.std.specs.List.{list_any}
-use Rattle.std.specs.Option.{option_map_or}
 use Rattle.std.specs.Str.{bytes_eq}
 use Rattle.std.specs.Cmp.Lexicographic.{pointwise}
-use Rattle.cdi_model.specs.Decl.{key_of}
-use Rattle.cdi_model.specs.DeclList.{find_decl}
-use Rattle.cdi_model.specs.Edits.{is_among}
 use Rattle.cdi_model.specs.Mentions.{mentions, Mention, EventOf, PointOf}
 use Rattle.cdi_model.specs.SameUse.{same_qual}
 use Rattle.cdi_model.specs.declared.decl.Decl.{Decl}
 use Rattle.cdi_model.specs.declared.decl.EventDecl.{EventDecl}
 use Rattle.cdi_model.specs.declared.decl.PointDecl.{PointDecl}
-use Rattle.cdi_model.specs.declared.key.DeclKey.{DeclKey}
 use Rattle.cdi_model.specs.declared.quals.Qual.{Qual}
 use Rattle.cdi_effective.specs.Qualifiers.{required}
 use Rattle.cdi_index.specs.declared.asked.Question.{Question}
@@ -36,13 +31,6 @@ asks_in question t us other = false
 unfoldable pub asks_for : Question → List ℕ → List Qual → Decl → Bool
 asks_for question t us d = list_any (asks_in question t us) (mentions d)
 
--- a declaration apart from those of some keys asks for it
-abbrev pub is_asked : List Decl → Question → List ℕ → List Qual → List DeclKey → Bool
-is_asked ds question t us apart = list_any (λ d. not (is_among apart (key_of d)) && asks_for question t us d) ds
-
--- the declaration of one of some keys asks for it
-abbrev pub asks_at : List Decl → Question → List ℕ → List Qual → DeclKey → Bool
-asks_at ds question t us k = option_map_or (asks_for question t us) (find_decl k.kind k.name ds) false
-
-abbrev pub is_asked_by : List Decl → List DeclKey → Question → List ℕ → List Qual → Bool
-is_asked_by ds keys question t us = list_any (asks_at ds question t us) keys
+-- a declaration asks for it
+abbrev pub is_asked : List Decl → Question → List ℕ → List Qual → Bool
+is_asked ds question t us = list_any (asks_for question t us) ds

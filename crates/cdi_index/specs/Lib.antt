@@ -3,6 +3,7 @@ pub mod Made
 pub mod Kept
 pub mod Replaced
 pub mod Next
+pub mod Slots
 pub mod State
 pub mod Told
 pub mod Asked

@@ -120,9 +120,18 @@ abbrev pub intercepted_reads : Decl → List DeclKey
 intercepted_reads (decls.Interceptor i) = map (λ u. key_at kinds.Binding (name_of_use u)) i.bindings
 intercepted_reads other = []
 
--- the words of an interceptor declaration: as it is seen, with its bindings filled, it rests on the types of these
+-- the words of its bindings, by which chains find it
+abbrev pub words_intercepting : Decl → List Word
+words_intercepting (decls.Interceptor i) = map (λ u. word_at reasons.Intercepts (name_of_use u)) i.bindings
+words_intercepting other = []
+
+-- those of an interceptor declaration: these, and those of what it names
+abbrev pub words_of_interceptor : Decl → List Word
+words_of_interceptor d = words_intercepting d ++ words_named d
+
+-- as it is seen, with its bindings filled, an interceptor rests on the types of these
 abbrev pub made_of_interceptor : Decl → Made
-made_of_interceptor d = record { reads = intercepted_reads d; replaces = []; words = words_named d; given = given.Nothing }
+made_of_interceptor d = record { reads = intercepted_reads d; replaces = []; words = words_of_interceptor d; given = given.Nothing }
 
 -- of a binding type that on which what it brings rests
 abbrev pub made_of_binding : List Decl → BindingDecl → Made

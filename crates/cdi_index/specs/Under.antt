@@ -1,5 +1,5 @@
 -- Which declarations are under words, and the beans that are found by these.
-use Rattle.std.specs.Prelude.{ℕ, nat_eq, Bool, true, false, List, [], flat_map, filter, Option, Some, None, if◌then◌else◌, position, slice_get}
+use Rattle.std.specs.Prelude.{ℕ, nat_eq, Bool, true, false, List, [], ◌∷◌, flat_map, filter, Option, Some, None, if◌then◌else◌, position, slice_get}
 use Rattle.std.specs.List.{list_any}
 use Rattle.std.specs.Option.{option_map_or}
 use Rattle.std.specs.Str.{bytes_eq}
@@ -8,7 +8,10 @@ use Rattle.cdi_model.specs.declared.decl.Decl.TheVariants as decls
 use Rattle.cdi_model.specs.DeclKey.{same_key}
 use Rattle.cdi_model.specs.DeclList.{is_of}
 use Rattle.cdi_match.specs.Chain.{has}
+use Rattle.cdi_model.specs.declared.quals.Qual.{Qual}
 use Rattle.cdi_effective.specs.Beans.{entries}
+use Rattle.cdi_effective.specs.Bindings.{class_bindings}
+use Rattle.cdi_effective.specs.Disposers.{find_bean}
 use Rattle.cdi_effective.specs.declared.records.Effective.{Effective}
 use Rattle.cdi_postings.specs.declared.word.Word.{Word}
 use Rattle.cdi_postings.specs.Listing.{Listing, under}
@@ -17,8 +20,7 @@ use Rattle.cdi_index.specs.declared.shelf.Kept.{Kept}
 use Rattle.cdi_index.specs.declared.shelf.Shelf.{Shelf}
 use Rattle.cdi_index.specs.declared.under.Sought.{Sought}
 use Rattle.cdi_index.specs.declared.under.Sought.TheVariants as sought
-use Rattle.cdi_index.specs.Kept.{kept_at}
-use Rattle.cdi_index.specs.Made.{words_have, words_named, words_of_bean}
+use Rattle.cdi_index.specs.Made.{words_have, words_of_bean, words_of_interceptor}
 use Rattle.cdi_index.specs.Replaced.{lent}
 
 -- ---- what is found
@@ -38,12 +40,21 @@ abbrev pub observes_one : List (List ℕ) → Decl → Bool
 observes_one types (decls.Bean bean) = list_any (λ o. has types o.event_type) bean.observers
 observes_one types other = false
 
+-- the bindings of the class of a bean, none where no such bean is declared
+abbrev pub bindings_in : List Decl → List ℕ → List Qual
+bindings_in ds class = option_map_or (class_bindings ds) (find_bean class ds) []
+
+-- those of the first of some records
+abbrev pub first_bindings : List Effective → List Qual
+first_bindings [] = []
+first_bindings (first ∷ others) = first.bindings
+
 -- ---- by words
 
 -- the words of a declaration
 abbrev pub words_by : List Decl → Decl → List Word
 words_by ds (decls.Bean bean) = words_of_bean ds bean
-words_by ds (decls.Interceptor i) = words_named (decls.Interceptor i)
+words_by ds (decls.Interceptor i) = words_of_interceptor (decls.Interceptor i)
 words_by ds other = []
 
 -- the declaration has one of these words
@@ -75,9 +86,9 @@ abbrev pub is_at : List Decl → Word → Option Kept → ℕ → Bool
 is_at ds word kept p = option_map_or (λ i. nat_eq i p) (position_under ds word kept) false
 
 -- it is the position of one that is kept at these slots
-abbrev pub is_at_slots : List Decl → Shelf → Word → List ℕ → ℕ → Bool
-is_at_slots ds shelf word slots p = list_any (λ s. is_at ds word (kept_at shelf s) p) slots
+abbrev pub is_at_slots : List Decl → (ℕ → Option Kept) → Word → List ℕ → ℕ → Bool
+is_at_slots ds kept word slots p = list_any (λ s. is_at ds word (kept s) p) slots
 
 -- of one that is listed under one of these words, and has it
-abbrev pub is_at_words : List Decl → Shelf → List Listing → List Word → ℕ → Bool
-is_at_words ds shelf listings words p = list_any (λ w. is_at_slots ds shelf w (under listings w) p) words
+abbrev pub is_at_words : List Decl → (ℕ → Option Kept) → List Listing → List Word → ℕ → Bool
+is_at_words ds kept listings words p = list_any (λ w. is_at_slots ds kept w (under listings w) p) words

@@ -1,18 +1,15 @@
 //! Which declarations ask for a bean of a type, or for the observer methods of an event of it.
-ghost use Rattle.std.specs.Prelude.{◌≡◌, ◌&&◌, not};
+ghost use Rattle.std.specs.Prelude.{◌≡◌, ◌&&◌, option_map};
 ghost use Rattle.std.specs.List.{list_any};
-ghost use Rattle.std.specs.Option.{option_copied};
-ghost use Rattle.cdi_model.specs.Edits.{is_among};
 ghost use Rattle.cdi_model.specs.Mentions.{shown};
 ghost use Rattle.cdi_postings.specs.Words.{word_at};
-ghost use Rattle.cdi_index.specs.Asked.{asks_for, asks_in, event_asks, is_asked_by, point_asks};
-ghost use Rattle.cdi_index.specs.AskedAt.{is_asker, is_asker_at, reason_of};
-ghost use Rattle.cdi_index.specs.Kept.{kept_at};
+ghost use Rattle.cdi_index.specs.Asked.{asks_for, asks_in, event_asks, point_asks};
+ghost use Rattle.cdi_index.specs.AskedAt.{is_asker, reason_of};
+ghost use Rattle.cdi_index.specs.Slots.{entry_kept};
 
-use crate::affected::has_key;
-use crate::shelf::{Kept, Shelf};
+use crate::shelf::{Entry, Slots};
 use cdi_effective::{default_use, required};
-use cdi_model::{Decl, DeclKey, Decls, EventDecl, Mention, Name, PointDecl, Qual};
+use cdi_model::{Decl, Decls, EventDecl, Mention, Name, PointDecl, Qual};
 use cdi_postings::{Reason, Word};
 use std::alloc::Global;
 
@@ -89,55 +86,31 @@ fn asks_for(alloc: Global, decl: &Decl, asked: Asked<'_>) -> bool
     false
 }
 
-/// Whether the declaration of one of some keys asks for it.
-pub(crate) fn is_asked_by(alloc: Global, decls: &Decls, keys: &[DeclKey], asked: Asked<'_>) -> bool
-    ensures { result ≡ is_asked_by decls.now keys.now asked.entry.question asked.entry.name.now asked.entry.uses.now }
+/// Whether what is kept is of a declaration that asks for it.
+fn is_asker(alloc: Global, decls: &Decls, entry: Option<Entry<'_>>, asked: Asked<'_>) -> bool
+    ensures { result ≡ is_asker decls.now asked.entry (option_map entry_kept entry.entry) }
 {
-    for key in keys {
-        if let Some(decl) = decls.get(key.kind, &key.name) {
-            if asks_for(alloc, decl, asked) {
-                return true;
-            }
-        }
-    }
-    false
-}
-
-/// Whether what is kept is of a declaration that asks for it, and has none of some keys.
-fn is_asker(
-    alloc: Global,
-    decls: &Decls,
-    kept: Option<&Kept>,
-    asked: Asked<'_>,
-    apart: &[DeclKey],
-) -> bool
-    ensures { result ≡ is_asker decls.now asked.entry apart.now (option_copied kept.entry) }
-{
-    let Some(kept) = kept else {
+    let Some(entry) = entry else {
         return false;
     };
-    if has_key(apart, &kept.key) {
-        return false;
-    }
-    match decls.get(kept.key.kind, &kept.key.name) {
+    match decls.get(entry.key.kind, &entry.key.name) {
         Some(decl) => asks_for(alloc, decl, asked),
         None => false,
     }
 }
 
-/// Whether a declaration at one of some slots asks for it, and has none of some keys.
-pub(crate) fn is_asked_at(
+/// Whether a declaration at one of some slots asks for it.
+pub(crate) fn is_asked_at<S: Slots>(
     alloc: Global,
     decls: &Decls,
-    shelf: &Shelf,
+    shelved: &S,
     slots: &[u64],
     asked: Asked<'_>,
-    apart: &[DeclKey],
 ) -> bool
-    ensures { result ≡ list_any (λ s. is_asker_at decls.now asked.entry apart.now shelf.now s) slots.now }
+    ensures { result ≡ list_any (λ s. is_asker decls.now asked.entry (S.kept shelved.now s)) slots.now }
 {
     for slot in slots {
-        if is_asker(alloc, decls, shelf.kept.get(slot), asked, apart) {
+        if is_asker(alloc, decls, shelved.at(*slot), asked) {
             return true;
         }
     }

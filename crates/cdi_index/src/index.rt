@@ -1,18 +1,18 @@
 //! The declarations, with what is made of each.
-ghost use Rattle.std.specs.Prelude.{◌≡◌, false, filter, flat_map, map, slice_get, option_map, length, ◌≤◌, Some, None, IfOk, IfSome, OnOk, OnErr};
+ghost use Rattle.std.specs.Prelude.{◌≡◌, false, filter, flat_map, map, slice_get, option_map, Some, None, IfOk, IfSome, OnOk, OnErr};
 ghost use Rattle.std.specs.Option.{option_copied, option_map_or};
 ghost use Rattle.cdi_positions.specs.Marks.{is_marked};
 ghost use Rattle.cdi_match.specs.Chain.{has};
 ghost use Rattle.cdi_effective.specs.Beans.{beans, entries};
 ghost use Rattle.cdi_effective.specs.Records.{records_in};
-ghost use Rattle.cdi_model.specs.DeclList.{limit, AreDistinct};
+ghost use Rattle.cdi_model.specs.DeclList.{AreDistinct};
 ghost use Rattle.cdi_model.specs.Edits.{is_among};
 ghost use Rattle.cdi_index.specs.Made.{made_of, reads, types_declared};
 ghost use Rattle.cdi_index.specs.Replaced.{lent};
 ghost use Rattle.cdi_index.specs.State.{committed, drafted_from, empty, staged_by, with_staged, IsEdited};
 ghost use Rattle.cdi_index.specs.Asked.{is_asked};
 ghost use Rattle.cdi_index.specs.Told.{Tells};
-ghost use Rattle.cdi_index.specs.Under.{beans_under, has_name, has_one, is_sought, observes_one, records_at};
+ghost use Rattle.cdi_index.specs.Under.{beans_under, bindings_in, first_bindings, has_name, has_one, is_sought, observes_one, records_at};
 
 use crate::affected::{copy_keys, readers_of};
 use crate::asked::{Asked, is_asked_at};
@@ -25,10 +25,11 @@ use crate::prepare::{Next, prepare};
 use crate::replaced::install_turns;
 use crate::shelf::Shelf;
 use crate::under::{
-    Sought, only_slot, positions_under, sought_at_positions, sought_at_slot, words_observed,
+    Recorded, Sought, only_slot, positions_under, sought_at_positions, sought_at_slot,
+    words_observed,
 };
 use cdi_effective::Effective;
-use cdi_model::{Decl, DeclKey, Decls, Kind, Name};
+use cdi_model::{Decl, DeclKey, Decls, Kind, Name, Qual};
 use cdi_positions::PositionSet;
 use cdi_postings::{Postings, Reason, Word};
 use std::alloc::{AllocError, Global};
@@ -135,6 +136,15 @@ impl Index {
         }
     }
 
+    /// The bindings of the class of a bean (Interceptors 2.1, Binding an Interceptor to a Class): none where no such bean is
+    /// declared. It takes no memory.
+    #[tactic(auto, using(crate::proofs::UnderLemmas::records_bound))]
+    pub fn class_bindings(&self, class: &Name) -> &[Qual]
+        ensures { result.now ≡ bindings_in self.now.decls class.now }
+    {
+        first_bindings(self.records(class))
+    }
+
     /// The records of the declaration at a position: none where it is no bean declaration. It takes no memory.
     pub fn records_at(&self, position: usize) -> &[Effective]
         ensures { result.now ≡ records_at self.now.decls position }
@@ -152,20 +162,12 @@ impl Index {
         positions_under(&self.decls, &self.shelf, &self.postings, words)
     }
 
-    /// Whether a declaration asks for it, those of some keys apart. It takes no memory, and looks at declarations that ask
-    /// for the type alone.
-    pub fn is_asked(&self, asked: Asked<'_>, apart: &[DeclKey]) -> bool
-        ensures { result
-            ≡ is_asked self.now.decls asked.entry.question asked.entry.name.now asked.entry.uses.now apart.now }
+    /// Whether a declaration asks for it. It takes no memory, and looks at declarations that ask for the type alone.
+    pub fn is_asked(&self, asked: Asked<'_>) -> bool
+        ensures { result ≡ is_asked self.now.decls asked.entry.question asked.entry.name.now asked.entry.uses.now }
     {
-        is_asked_at(
-            self.alloc,
-            &self.decls,
-            &self.shelf,
-            self.postings.under(asked.word()),
-            asked,
-            apart,
-        )
+        let slots = self.postings.under(asked.word());
+        is_asked_at(self.alloc, &self.decls, &self.shelf, slots, asked)
     }
 
     /// The declarations of types, bindings, beans and interceptors of which what is made read the declaration of a key, or
@@ -274,10 +276,9 @@ impl Index {
         ensures value { result ≡ option_map (λ staged. staged.decls) self.now.staged }
         ensures distinct { AreDistinct self.now.decls }
         ensures apart { IfSome result AreDistinct }
-        ensures few { IfSome result (λ ds. length ds ≤ limit) }
     {
         match &self.next {
-            Some(next) => Some(NextIndex::new(&self.shelf, next)),
+            Some(next) => Some(NextIndex::new(self.alloc, &self.shelf, &self.postings, next)),
             None => None,
         }
     }
@@ -298,6 +299,24 @@ impl Index {
             self.decls = next.decls;
             self.counts = next.counts;
         }
+    }
+}
+
+impl Recorded for Index {
+    ghost list = { λ i. i.decls };
+
+    fn records_at(&self, position: usize) -> &[Effective] {
+        Index::records_at(self, position)
+    }
+}
+
+/// The bindings of the first of some records.
+pub(crate) fn first_bindings(records: &[Effective]) -> &[Qual]
+    ensures { result.now ≡ first_bindings records.now }
+{
+    match records.first() {
+        Some(record) => record.bindings.as_slice(),
+        None => &[],
     }
 }
 

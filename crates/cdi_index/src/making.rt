@@ -13,7 +13,7 @@ ghost use Rattle.cdi_match.specs.Filling.{as_binding};
 ghost use Rattle.cdi_match.specs.Locality.{binding_reads};
 ghost use Rattle.cdi_index.specs.Made.{intercepted_reads, made_of, made_of_bean, made_of_binding, made_of_interceptor, made_of_type};
 ghost use Rattle.cdi_index.specs.Made.{words_named, words_named_in, words_of, words_of_event, words_of_observer, words_of_point, words_of_record};
-ghost use Rattle.cdi_index.specs.Made.{words_written_in};
+ghost use Rattle.cdi_index.specs.Made.{words_intercepting, words_written_in};
 
 use crate::next_types::NextTypes;
 use cdi_effective::{
@@ -329,11 +329,24 @@ fn intercepted_reads(alloc: Global, decl: &Decl) -> Result<Seq<DeclKey>, AllocEr
     }
 }
 
-/// Makes the words of what an interceptor declaration names.
+/// Appends the words of the bindings of an interceptor, by which chains find it.
+fn push_intercepting_words(decl: &Decl, words: &mut Vec<Word>) -> Result<(), AllocError>
+    ensures { OnOk result (words.new.items ≡ words.old.items ++ words_intercepting decl.now) }
+{
+    match decl {
+        Decl::Interceptor(interceptor) => {
+            push_use_words(Reason::Intercepts, interceptor.bindings.as_slice(), words)
+        }
+        _ => Ok(()),
+    }
+}
+
+/// Makes the words of an interceptor declaration.
 fn make_words(alloc: Global, decl: &Decl) -> Result<Made, AllocError>
     ensures { IfOk result (λ made. made ≡ made_of_interceptor decl.now) }
 {
     let mut words = Vec::new(alloc);
+    push_intercepting_words(decl, &mut words)?;
     push_words_named(alloc, decl, &mut words)?;
     Ok(Made {
         reads: intercepted_reads(alloc, decl)?,

@@ -1,25 +1,85 @@
 //! The declarations as they are after the next commit.
-ghost use Rattle.std.specs.Prelude.{◌≡◌};
+ghost use Rattle.std.specs.Prelude.{◌≡◌, false, filter, flat_map, map, option_map, slice_get, IfOk};
+ghost use Rattle.std.specs.Option.{option_copied, option_map_or};
+ghost use Rattle.cdi_positions.specs.Marks.{is_marked};
 ghost use Rattle.cdi_model.specs.DeclList.{AreDistinct};
+ghost use Rattle.cdi_match.specs.Chain.{has};
+ghost use Rattle.cdi_effective.specs.Beans.{beans, entries};
 ghost use Rattle.cdi_effective.specs.Records.{records_in};
-ghost use Rattle.cdi_index.specs.Asked.{is_asked_by};
+ghost use Rattle.cdi_index.specs.Asked.{is_asked};
 ghost use Rattle.cdi_index.specs.Next.{IsAfter};
-ghost use Rattle.cdi_index.specs.Under.{records_at};
+ghost use Rattle.cdi_index.specs.Slots.{entry_kept, kept_of_one, unless_among};
+ghost use Rattle.cdi_index.specs.Under.{bindings_in, has_one, observes_one, records_at};
 
-use crate::asked::{Asked, is_asked_by};
-use crate::index::own_records;
+use crate::asked::{Asked, is_asked_at};
+use crate::change::Change;
+use crate::index::{first_bindings, own_records};
 use crate::prepare::Next;
 use crate::replaced::{made_after, records_turned};
-use crate::shelf::Shelf;
+use crate::shelf::{Entry, Shelf, Slots};
+use crate::under::{Recorded, Sought, positions_under, sought_at_positions, words_observed};
 use cdi_effective::Effective;
 use cdi_model::{Decl, DeclKey, Decls, Kind, Name, Qual};
-use std::alloc::Global;
+use cdi_positions::PositionSet;
+use cdi_postings::{Postings, Reason, Word};
+use indexmap::IndexSet;
+use std::alloc::{AllocError, Global};
 use std::marker::Model;
+
+/// What is kept of declarations by slots after the next commit.
+#[derive(Clone, Copy)]
+struct NextSlots<'a> {
+    shelf: &'a Shelf,
+    next: &'a Next,
+}
+
+impl Slots for NextSlots<'_> {
+    ghost use Rattle.cdi_index.specs.Slots.{kept_next};
+
+    ghost kept = { λ n. kept_next n.shelf.now n.next.now };
+
+    fn at(&self, slot: u64) -> Option<Entry<'_>> {
+        if slot < self.next.first {
+            return kept_still(self.shelf.at(slot), &self.next.affected);
+        }
+        kept_anew(
+            self.next
+                .changes
+                .as_slice()
+                .get((slot - self.next.first) as usize),
+        )
+    }
+}
+
+/// What is kept of a declaration, where it is not affected.
+fn kept_still<'a>(entry: Option<Entry<'a>>, affected: &IndexSet<DeclKey>) -> Option<Entry<'a>>
+    ensures { option_map entry_kept result ≡ unless_among affected.now.keys (option_map entry_kept entry.entry) }
+{
+    let entry = entry?;
+    if affected.contains(entry.key) {
+        return None;
+    }
+    Some(entry)
+}
+
+/// What is kept of a change.
+fn kept_anew(change: Option<&Change>) -> Option<Entry<'_>>
+    ensures { option_map entry_kept result ≡ kept_of_one (option_copied change.entry) }
+{
+    let change = change?;
+    let made = change.made.as_ref()?;
+    Some(Entry {
+        key: &change.key,
+        made,
+    })
+}
 
 /// The declarations after the draft that an index has staged.
 #[derive(Drop)]
 pub struct NextIndex<'a> {
+    alloc: Global,
     shelf: &'a Shelf,
+    postings: &'a Postings,
     next: &'a Next,
 }
 
@@ -32,15 +92,33 @@ impl<'a> Model for NextIndex<'a> {
 
     ghost view = { λ n. n.next.now.decls };
 
-    ghost invariant = { λ n. IsAfter n.shelf.now n.next.now };
+    ghost invariant = { λ n. IsAfter n.shelf.now n.postings.now n.next.now };
+}
+
+impl Recorded for NextIndex<'_> {
+    ghost list = { λ n. n };
+
+    fn records_at(&self, position: usize) -> &[Effective] {
+        NextIndex::records_at(self, position)
+    }
 }
 
 impl<'a> NextIndex<'a> {
-    pub(crate) fn new(shelf: &'a Shelf, next: &'a Next) -> NextIndex<'a>
-        requires { IsAfter shelf.now next.now }
+    pub(crate) fn new(
+        alloc: Global,
+        shelf: &'a Shelf,
+        postings: &'a Postings,
+        next: &'a Next,
+    ) -> NextIndex<'a>
+        requires { IsAfter shelf.now postings.now next.now }
         ensures { result ≡ next.now.decls }
     {
-        NextIndex { shelf, next }
+        NextIndex {
+            alloc,
+            shelf,
+            postings,
+            next,
+        }
     }
 
     /// The declarations. It takes no memory.
@@ -71,12 +149,67 @@ impl<'a> NextIndex<'a> {
         }
     }
 
-    /// Whether the declaration of one of some keys asks for it. It takes no memory.
-    pub fn is_asked_by(&self, alloc: Global, keys: &[DeclKey], asked: Asked<'_>) -> bool
-        ensures { result
-            ≡ is_asked_by self.now keys.now asked.entry.question asked.entry.name.now asked.entry.uses.now }
+    /// The bindings of the class of a bean: none where no such bean is declared. It takes no memory.
+    #[tactic(auto, using(crate::proofs::UnderLemmas::records_bound))]
+    pub fn class_bindings(&self, class: &Name) -> &'a [Qual]
+        ensures { result.now ≡ bindings_in self.now class.now }
     {
-        is_asked_by(alloc, &self.next.decls, keys, asked)
+        first_bindings(self.records(class))
+    }
+
+    /// Whether a declaration asks for it. It takes no memory, and looks at declarations that ask for the type alone.
+    pub fn is_asked(&self, asked: Asked<'_>) -> bool
+        ensures { result ≡ is_asked self.now asked.entry.question asked.entry.name.now asked.entry.uses.now }
+    {
+        let slots = self.postings.under(asked.word());
+        let shelved = NextSlots {
+            shelf: self.shelf,
+            next: self.next,
+        };
+        is_asked_at(self.alloc, &self.next.decls, &shelved, slots, asked)
+    }
+
+    /// The positions of the declarations that have one of some words. It takes no memory, and looks at these alone.
+    pub fn positions_under(&self, words: &[Word]) -> PositionSet
+        ensures { (p : _) → is_marked result p ≡ option_map_or (has_one self.now words.now) (slice_get self.now p) false }
+    {
+        let shelved = NextSlots {
+            shelf: self.shelf,
+            next: self.next,
+        };
+        positions_under(&self.next.decls, &shelved, self.postings, words)
+    }
+
+    /// The beans that have a type, enabled or not, in order. It takes memory for a list of them, and looks at the beans of
+    /// their declarations alone.
+    pub fn beans_of_type(
+        &self,
+        alloc: Global,
+        bean_type: &Name,
+    ) -> Result<Vec<&Effective>, AllocError>
+        ensures { IfOk result (λ list. map (λ bean. bean.now) list.items ≡ filter (λ bean. has bean.types bean_type.now) (beans self.now)) }
+    {
+        let word = Word {
+            reason: Reason::HasType,
+            name: *bean_type,
+        };
+        let positions = self.positions_under(&[word]);
+        sought_at_positions(alloc, self, Sought::OfType(bean_type), &positions)
+    }
+
+    /// The beans of the declarations of which an observer method observes one of some types, in order. It takes memory for
+    /// lists of the types and of the beans.
+    pub fn beans_observing(
+        &self,
+        alloc: Global,
+        types: &[Name],
+    ) -> Result<Vec<&Effective>, AllocError>
+        ensures { IfOk result (λ list. map (λ bean. bean.now) list.items
+            ≡ flat_map (entries self.now) (filter (observes_one types.now) self.now)) }
+    {
+        let words = words_observed(alloc, types)?;
+        let positions = self.positions_under(&words);
+        sought_at_positions(alloc, self, Sought::Each, &positions)
     }
 
     /// The records of the declaration at a position: none where it is no bean declaration. It takes no memory.

@@ -1,9 +1,11 @@
 //! What is kept of declarations, by slots.
-ghost use Rattle.std.specs.Prelude.{◌≡◌, ◌≤◌, ◌<◌, ◌+◌, ◌⊎◌, ◌^◌, Some, None, cond, OnOk};
+ghost use Rattle.std.specs.Prelude.{◌≡◌, ◌≤◌, ◌<◌, ◌+◌, ◌⊎◌, ◌^◌, ℕ, Option, Some, None, cond, option_map, OnOk};
 ghost use Rattle.std.specs.Option.{option_copied};
 ghost use Rattle.indexmap.specs.IndexMap.{get, spare};
 ghost use Rattle.cdi_model.specs.DeclKey.{same_key};
+ghost use Rattle.cdi_index.specs.declared.shelf.Kept.{Kept as AnyKept};
 ghost use Rattle.cdi_index.specs.Kept.{kept_at, made_in, slot_of, stored, IsShelf};
+ghost use Rattle.cdi_index.specs.Slots.{entry_kept};
 
 use crate::making::Made;
 use cdi_effective::Effective;
@@ -38,6 +40,37 @@ impl Drop for Shelf {
             given: _,
             replaced: _,
         } = self;
+    }
+}
+
+/// What is kept at a slot, lent.
+#[derive(Clone, Copy)]
+pub(crate) struct Entry<'a> {
+    pub(crate) key: &'a DeclKey,
+    pub(crate) made: &'a Made,
+}
+
+/// What is kept of declarations by slots, before the next commit or after it.
+pub(crate) trait Slots {
+    /// What is kept at each slot.
+    ghost kept: { Self → ℕ → Option AnyKept };
+
+    /// What is kept at a slot. It takes no memory.
+    fn at(&self, slot: u64) -> Option<Entry<'_>>
+        ensures { option_map entry_kept result ≡ kept self.now slot };
+}
+
+impl Slots for Shelf {
+    ghost use Rattle.cdi_index.specs.Kept.{kept_at};
+
+    ghost kept = { λ s. kept_at s };
+
+    fn at(&self, slot: u64) -> Option<Entry<'_>> {
+        let kept = self.kept.get(&slot)?;
+        Some(Entry {
+            key: &kept.key,
+            made: &kept.made,
+        })
     }
 }
 

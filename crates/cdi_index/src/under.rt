@@ -1,10 +1,12 @@
 //! The declarations that are under words, and the beans that are found by these.
-ghost use Rattle.std.specs.Prelude.{◌≡◌, ◌<◌, ◌||◌, ◌++◌, ℕ, Bool, filter, flat_map, length, map, IfOk, IfSome, OnOk};
+ghost use Rattle.std.specs.Prelude.{◌≡◌, ◌<◌, ◌||◌, ◌++◌, ℕ, Bool, List, filter, flat_map, length, map, option_map, IfOk, IfSome, OnOk};
 ghost use Rattle.std.specs.List.{list_any};
 ghost use Rattle.std.specs.Option.{option_copied};
 ghost use Rattle.cdi_model.specs.DeclList.{limit};
 ghost use Rattle.cdi_positions.specs.Marks.{is_marked, marked_from};
+ghost use Rattle.cdi_model.specs.declared.decl.Decl.{Decl};
 ghost use Rattle.cdi_index.specs.Made.{words_have};
+ghost use Rattle.cdi_index.specs.Slots.{entry_kept};
 ghost use Rattle.cdi_index.specs.Kept.{kept_at};
 ghost use Rattle.cdi_postings.specs.Listing.{under};
 ghost use Rattle.cdi_postings.specs.Words.{word_at};
@@ -12,9 +14,9 @@ ghost use Rattle.cdi_postings.specs.declared.word.Word.{Word as AnyWord};
 ghost use Rattle.cdi_postings.specs.declared.word.Reason.TheVariants as reasons;
 ghost use Rattle.cdi_index.specs.Under.{has_name, is_sought, is_at_slots, is_at_words, position_under, records_at, records_kept};
 
-use crate::index::{Index, own_records};
+use crate::index::own_records;
 use crate::making::Made;
-use crate::shelf::{Kept, Shelf};
+use crate::shelf::{Entry, Kept, Shelf, Slots};
 use cdi_effective::Effective;
 use cdi_model::{Decls, Name};
 use cdi_positions::PositionSet;
@@ -29,43 +31,49 @@ fn has_word(made: &Made, word: &Word) -> bool
 }
 
 /// The position of the declaration of which this is kept, where it has a word.
-fn position_under(decls: &Decls, kept: Option<&Kept>, word: &Word) -> Option<usize>
-    ensures value { result ≡ position_under decls.now word.now (option_copied kept.entry) }
+fn position_under(decls: &Decls, entry: Option<Entry<'_>>, word: &Word) -> Option<usize>
+    ensures value { result ≡ position_under decls.now word.now (option_map entry_kept entry.entry) }
     ensures bound { IfSome result (λ i. i < limit) }
 {
-    let kept = kept?;
-    if !has_word(&kept.made, word) {
+    let entry = entry?;
+    if !has_word(entry.made, word) {
         return None;
     }
-    decls.position(kept.key.kind, &kept.key.name)
+    decls.position(entry.key.kind, &entry.key.name)
 }
 
 /// Marks the positions of the declarations at some slots that have a word.
-fn mark_slots(decls: &Decls, shelf: &Shelf, slots: &[u64], word: &Word, positions: &mut PositionSet)
+fn mark_slots<S: Slots>(
+    decls: &Decls,
+    shelved: &S,
+    slots: &[u64],
+    word: &Word,
+    positions: &mut PositionSet,
+)
     requires { length positions.old ≡ limit }
     ensures size { length positions.new ≡ limit }
     ensures marks { (p : _) → is_marked positions.new p
-        ≡ (is_marked positions.old p || is_at_slots decls.now shelf.now word.now slots.now p) }
+        ≡ (is_marked positions.old p || is_at_slots decls.now (S.kept shelved.now) word.now slots.now p) }
 {
     for slot in slots {
-        if let Some(position) = position_under(decls, shelf.kept.get(slot), word) {
+        if let Some(position) = position_under(decls, shelved.at(*slot), word) {
             positions.insert(position);
         }
     }
 }
 
 /// The positions of the declarations that are listed under some words, and have one of them.
-pub(crate) fn positions_under(
+pub(crate) fn positions_under<S: Slots>(
     decls: &Decls,
-    shelf: &Shelf,
+    shelved: &S,
     postings: &Postings,
     words: &[Word],
 ) -> PositionSet
-    ensures { (p : _) → is_marked result p ≡ is_at_words decls.now shelf.now postings.now words.now p }
+    ensures { (p : _) → is_marked result p ≡ is_at_words decls.now (S.kept shelved.now) postings.now words.now p }
 {
     let mut positions = PositionSet::new();
     for word in words {
-        mark_slots(decls, shelf, postings.under(*word), word, &mut positions);
+        mark_slots(decls, shelved, postings.under(*word), word, &mut positions);
     }
     positions
 }
@@ -170,15 +178,25 @@ pub(crate) fn sought_at_slot<'a>(
     Ok(list)
 }
 
+/// The declarations before the next commit or after it, with the records of each.
+pub(crate) trait Recorded {
+    /// The declarations.
+    ghost list: { Self → List Decl };
+
+    /// The records of the declaration at a position. It takes no memory.
+    fn records_at(&self, position: usize) -> &[Effective]
+        ensures { result.now ≡ records_at (list self.now) position };
+}
+
 /// Those of the records of the declarations at some positions that are sought, in order.
-pub(crate) fn sought_at_positions<'a>(
+pub(crate) fn sought_at_positions<'a, R: Recorded>(
     alloc: Global,
-    index: &'a Index,
+    index: &'a R,
     sought: Sought<'_>,
     positions: &PositionSet,
 ) -> Result<Vec<&'a Effective>, AllocError>
     ensures { IfOk result (λ list. map (λ bean. bean.now) list.items
-        ≡ filter (is_sought sought.entry) (flat_map (records_at index.now.decls) (marked_from 0 positions.now))) }
+        ≡ filter (is_sought sought.entry) (flat_map (records_at (R.list index.now)) (marked_from 0 positions.now))) }
 {
     let mut list = Vec::new(alloc);
     for position in positions.iter() {

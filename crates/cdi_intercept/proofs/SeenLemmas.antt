@@ -9,7 +9,6 @@ use Rattle.base_numbers.proofs.Texts.{one_text, bytes_eq-turned}
 use Rattle.cdi_model.specs.declared.decl.{BeanDecl.BeanDecl, BindingDecl.BindingDecl, Decl.Decl, InterceptorDecl.InterceptorDecl}
 use Rattle.cdi_model.specs.declared.{decl.MemberDecl.MemberDecl, place.BeanPlace.BeanPlace, quals.Qual.Qual}
 use Rattle.cdi_model.specs.declared.decl.UseKind.TheVariants as use_kinds
-use Rattle.cdi_model.specs.declared.refusal.Refusal.TheVariants as refusals
 use Rattle.cdi_match.specs.Covering.{agree, agree_at, covers, covers_by, given_name, is_binding}
 use Rattle.cdi_match.specs.Filling.{declared_of, fill, find_binding, value_of}
 use Rattle.cdi_match.specs.Filled.{FilledUse, filled, filled_by}

@@ -3,11 +3,12 @@ ghost use Rattle.std.specs.Prelude.{◌≡◌, IfOk};
 ghost use Rattle.cdi_model.specs.Answering.{Answers};
 ghost use Rattle.cdi_effective.specs.Bindings.{class_bindings};
 ghost use Rattle.cdi_effective.specs.TextOrder.{in_text_order};
-ghost use Rattle.cdi_intercept.specs.Bindings.{bindings_at, BindingsAreThose, set_at};
+ghost use Rattle.cdi_match.specs.Bindings.{uses_in};
+ghost use Rattle.cdi_intercept.specs.Bindings.{bindings_at, BindingsAreThose};
 ghost use Rattle.cdi_intercept.specs.Sets.{set_by};
 
-use crate::set::{has_place, set_among};
-use cdi_effective::{class_uses, copies, in_text_order};
+use crate::set::{has_place, set_by};
+use cdi_effective::{class_bindings, copies, in_text_order};
 use cdi_model::{BeanDecl, BeanPlace, Decl, Decls, Error, Kind, Name, Qual, Refusal, Seq};
 use std::alloc::{AllocError, Global};
 
@@ -32,21 +33,19 @@ pub fn bindings_at(
     Ok(bindings_of(alloc, decls, bean, place)?)
 }
 
-/// What the chain around a place of the bean of a class sees of bindings: those there, as `bindings_at` tells them, and none
-/// where no such bean is declared or it has no such place. It takes memory as `bindings_at` does.
-#[tactic(auto, unfolding(cdi_effective::specs::TextOrder::in_text_order))]
-pub fn bindings_seen(
+/// What the chain around a place of a bean whose class has these bindings sees of bindings: those there, as `bindings_at` tells
+/// them, and none where the bean has no such place. It takes memory for the search, for the list and for the texts.
+pub fn bindings_seen<'a>(
     alloc: Global,
-    decls: &Decls,
-    class: Name,
+    decls: &'a Decls,
+    class: &'a [Qual],
+    bean: &'a BeanDecl,
     place: &BeanPlace,
-) -> Result<Seq<Qual>, AllocError>
-    ensures { IfOk result (λ list. list ≡ in_text_order (set_at decls.now class place.now)) }
+) -> Result<Vec<&'a Qual>, AllocError>
+    ensures { IfOk result (λ list. uses_in list.items ≡ in_text_order (set_by decls.now class.now bean.now place.now)) }
 {
-    let Some(Decl::Bean(bean)) = decls.get(Kind::Bean, &class) else {
-        return Ok(Seq::new(alloc));
-    };
-    bindings_of(alloc, decls, bean, place)
+    let set = set_by(alloc, decls, class, bean, place)?;
+    in_text_order(alloc, &set)
 }
 
 /// The bindings at a place of a bean, each once, in the byte order of their texts.
@@ -59,8 +58,7 @@ fn bindings_of(
     ensures { IfOk result (λ list. list
         ≡ in_text_order (set_by decls.now (class_bindings decls.now bean.now) bean.now place.now)) }
 {
-    let class = class_uses(alloc, decls, bean)?;
-    let set = set_among(alloc, decls, class, bean, place)?;
-    let bindings = in_text_order(alloc, &set)?;
+    let class = class_bindings(alloc, decls, bean)?;
+    let bindings = bindings_seen(alloc, decls, class.as_slice(), bean, place)?;
     copies(alloc, &bindings)
 }

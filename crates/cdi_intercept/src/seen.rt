@@ -1,6 +1,7 @@
 //! What the chain around a place sees of the interceptors.
 ghost use Rattle.std.specs.Prelude.{◌≡◌, filter, IfOk};
 ghost use Rattle.std.specs.List.{list_any};
+ghost use Rattle.cdi_match.specs.Bindings.{uses_in};
 ghost use Rattle.cdi_effective.specs.Qualifiers.{uses_one};
 ghost use Rattle.cdi_intercept.specs.Lent.{lent_in};
 ghost use Rattle.cdi_intercept.specs.Sees.{is_seen, shares_type};
@@ -15,10 +16,10 @@ use std::alloc::{AllocError, Global};
 pub fn seen_around<'a>(
     alloc: Global,
     order: &[&'a InterceptorDecl],
-    bindings: &[Qual],
+    bindings: &[&Qual],
     place: &BeanPlace,
 ) -> Result<Vec<&'a InterceptorDecl>, AllocError>
-    ensures { IfOk result (λ list. lent_in list.items ≡ filter (is_seen bindings.now place.now) (lent_in order.now)) }
+    ensures { IfOk result (λ list. lent_in list.items ≡ filter (is_seen (uses_in bindings.now) place.now) (lent_in order.now)) }
 {
     let mut list = Vec::new(alloc);
     for interceptor in order {
@@ -29,14 +30,14 @@ pub fn seen_around<'a>(
     Ok(list)
 }
 
-fn is_seen(bindings: &[Qual], place: &BeanPlace, interceptor: &InterceptorDecl) -> bool
-    ensures { result ≡ is_seen bindings.now place.now interceptor.now }
+fn is_seen(bindings: &[&Qual], place: &BeanPlace, interceptor: &InterceptorDecl) -> bool
+    ensures { result ≡ is_seen (uses_in bindings.now) place.now interceptor.now }
 {
     part_for(place, interceptor).is_some() && shares_type(bindings, interceptor)
 }
 
-fn shares_type(bindings: &[Qual], interceptor: &InterceptorDecl) -> bool
-    ensures { result ≡ shares_type bindings.now interceptor.now }
+fn shares_type(bindings: &[&Qual], interceptor: &InterceptorDecl) -> bool
+    ensures { result ≡ shares_type (uses_in bindings.now) interceptor.now }
 {
     for binding in interceptor.bindings.as_slice() {
         if uses_one(bindings, binding.name) {
@@ -47,8 +48,8 @@ fn shares_type(bindings: &[Qual], interceptor: &InterceptorDecl) -> bool
 }
 
 /// Whether one of some bindings is of a type.
-fn uses_one(bindings: &[Qual], name: Name) -> bool
-    ensures { result ≡ uses_one bindings.now name }
+fn uses_one(bindings: &[&Qual], name: Name) -> bool
+    ensures { result ≡ uses_one (uses_in bindings.now) name }
 {
     for binding in bindings {
         if name == binding.name {

@@ -1,14 +1,13 @@
 -- Which events are wanted: those for which a declaration asks.
-use Rattle.cdi_live.proofs.Common.{any-same, ◌≡◌, Bool, false, List, [], ◌∷◌, map, refl, sym, ◌∙◌, list_any, Decl, BeanPlace, Qual, ℕ}
-use Rattle.cdi_live.proofs.Common.{flat_map, list_any-append, Edit, AreDistinct, edited_all, edited_keys, Mention, EventOf, asks_for}
-use Rattle.cdi_live.proofs.Common.{asks_in, is_wanted, key_of_point, is_asked_after, ChainKey, places_of, has_key, EventKey, wanted_by}
+use Rattle.cdi_live.proofs.Common.{any-same, ◌≡◌, Bool, false, List, [], ◌∷◌, map, refl, list_any, Decl, BeanPlace, Qual, ℕ}
+use Rattle.cdi_live.proofs.Common.{flat_map, list_any-append, Mention, EventOf, asks_for}
+use Rattle.cdi_live.proofs.Common.{asks_in, is_wanted, key_of_point, ChainKey, places_of, has_key, EventKey, wanted_by}
 use Rattle.cdi_live.proofs.Common.{arith}
 use Rattle.std.proofs.Math.Bool.{or-false}
 use Rattle.cdi_model.specs.declared.decl.PointDecl.{PointDecl}
 use Rattle.cdi_model.specs.declared.decl.Decl.TheVariants as decls
 use Rattle.cdi_index.specs.declared.asked.Question.TheVariants as questions
 use Rattle.cdi_observe.specs.Wanted.{chains_by, event_in}
-use Rattle.cdi_live.proofs.AskedLemmas.{asked-after}
 
 module _ (t : List ℕ) (us : List Qual) where
   abbrev own : Mention → Bool
@@ -44,9 +43,3 @@ module _ (t : List ℕ) (us : List Qual) where
   unfolding is_wanted
   event-wanted-is ds =
       any-same (λ d. has_key (wanted_by d) (EventKey t us)) (asks_for questions.Event t us) ds fires-is
-
-  -- also after edits
-  pub fired-after : (edits : List Edit) (ds : List Decl) → AreDistinct ds → AreDistinct (edited_all ds edits)
-      → is_asked_after ds (edited_all ds edits) (edited_keys edits) questions.Event t us ≡ is_wanted (edited_all ds edits) (EventKey t us)
-  fired-after edits ds distinct apart =
-      asked-after questions.Event t us edits ds distinct apart ∙ sym (event-wanted-is (edited_all ds edits))

@@ -3,14 +3,15 @@ use Rattle.cdi_live.proofs.Common.{◌≡◌, Bool, true, false, not, ◌&&◌, 
 use Rattle.cdi_live.proofs.Common.{bytes_eq, and_from, and_parts, false≢true, or_cases, or_left, or_right, Decl, Qual, ℕ, ◌||◌, Option}
 use Rattle.cdi_live.proofs.Common.{Some, None, option_map_or, Edit, DeclKey, key_of, kind_of, name_of_decl, find_decl, AreDistinct}
 use Rattle.cdi_live.proofs.Common.{edited_all, edited_keys, is_among, mentions, Mention, EventOf, asks_for, asks_in, is_wanted, IsPresent}
-use Rattle.cdi_live.proofs.Common.{all_present, found_any, witness, is_asked_after, bytes_decides, Tells, parts_under, parts-kept}
+use Rattle.cdi_live.proofs.Common.{all_present, found_any, witness, edits_keep_decl, bytes_decides, Tells, parts_under, parts-kept}
 use Rattle.cdi_live.proofs.Common.{is_touched, IsBetween, Sides, holds, EventKey, keys_of, same_quals, same_quals-decides, ObserverId}
 use Rattle.cdi_live.proofs.Common.{is_touched_of, Events, is_suspect, not-true, same-bool, arith, is_dropped_by, is_dropped_in}
 use Rattle.std.specs.Map.{lookup}
 use Rattle.std.proofs.lemmas.Map.Made.{is_some-lookup}
 use Rattle.cdi_index.specs.declared.asked.Question.TheVariants as questions
 use Rattle.cdi_live.proofs.{AskedLemmas.any-among, AskedLemmas.any-elim, EventSuspectLemmas.is-held, EventSuspectLemmas.untouched}
-use Rattle.cdi_live.proofs.EventAskedLemmas.{event-wanted-is, fired-after}
+use Rattle.cdi_index.specs.Asked.{is_asked}
+use Rattle.cdi_live.proofs.EventAskedLemmas.{event-wanted-is}
 use Rattle.cdi_live.specs.EventDropped.{is_dropped_at, is_kept, Drops}
 use Rattle.cdi_live.specs.EventStage.{event_stays, EventsAreWanted}
 
@@ -74,7 +75,7 @@ module _ (sees : List ℕ → List Qual → Bool) (t : List ℕ) (us : List Qual
 module _ (edits : List Edit) (ds : List Decl) (distinct : AreDistinct ds) (apart : AreDistinct (edited_all ds edits)) (m : Events)
     (t : List ℕ) (us : List Qual) (kept : is_kept m t us ≡ true) (wanted : is_wanted ds (EventKey t us) ≡ true) (drops : Drops)
     (are : (s : List ℕ) (vs : List Qual) → drops s
-    vs ≡ (is_kept m s vs && not (is_asked_after ds (edited_all ds edits) (edited_keys edits) questions.Event s vs))) where
+    vs ≡ (is_kept m s vs && not (is_asked (edited_all ds edits) questions.Event s vs))) where
   abbrev es : List Decl
   es = edited_all ds edits
 
@@ -88,8 +89,7 @@ module _ (edits : List Edit) (ds : List Decl) (distinct : AreDistinct ds) (apart
   fired = sym (event-wanted-is t us ds) ∙ wanted
 
   drops-own : drops t us ≡ unwanted
-  drops-own = are t us ∙ ap (λ b. b && not (is_asked_after ds es keys questions.Event t us)) kept
-      ∙ ap not (fired-after t us edits ds distinct apart)
+  drops-own = are t us ∙ ap (λ b. b && not (is_asked es questions.Event t us)) kept ∙ ap not (sym (event-wanted-is t us es))
 
   -- what a declaration drops is what it fires, and is not wanted
   dropped-in : (x : Mention) → is_dropped_in drops t us x ≡ (asks_in questions.Event t us x && unwanted)
@@ -141,10 +141,9 @@ module _ (edits : List Edit) (ds : List Decl) (distinct : AreDistinct ds) (apart
               (ap (λ o. option_map_or (is_dropped_by drops t us) o false) found ∙ dropped-by d
               ∙ and_from (asks_for questions.Event t us d) unwanted firing none)
           by d found firing false apart_from = absurd (false≢true (sym (not-true (is_wanted es (EventKey t us)) none)
-              ∙ sym (fired-after t us edits ds distinct apart)
-              ∙ or_left _ _ (found_any (kind_of d) (name_of_decl d) ds d
-              (λ x. not (is_among keys (key_of x)) && asks_for questions.Event t us x) found
-              (and_from (not (is_among keys (key_of d))) (asks_for questions.Event t us d) (ap not apart_from) firing))))
+              ∙ event-wanted-is t us es
+              ∙ found_any (kind_of d) (name_of_decl d) es d (asks_for questions.Event t us)
+              (edits_keep_decl edits ds (kind_of d) (name_of_decl d) apart_from ∙ found) firing))
 
   -- ---- both
 
@@ -167,7 +166,7 @@ module _ (edits : List Edit) (ds : List Decl) (distinct : AreDistinct ds) (apart
 -- what goes is known of declarations that edits lead to
 abbrev GoesOn : List Decl → List DeclKey → Events → Drops → List (List ℕ) → List ℕ → List Qual → List Decl → List DeclKey → Type 0
 GoesOn ds told m drops types t us e ks = Tells ds e ks told → AreDistinct e
-    → ((s : List ℕ) (vs : List Qual) → drops s vs ≡ (is_kept m s vs && not (is_asked_after ds e ks questions.Event s vs)))
+    → ((s : List ℕ) (vs : List Qual) → drops s vs ≡ (is_kept m s vs && not (is_asked e questions.Event s vs)))
     → ((n : List ℕ) → list_any (bytes_eq n) types ≡ is_suspect ds e ks told (keys_of m) n)
     → (is_touched_of ds e m types t us || list_any (is_dropped_at ds drops t us) ks) ≡ not (event_stays ds e t us)
 
@@ -175,7 +174,7 @@ GoesOn ds told m drops types t us e ks = Tells ds e ks told → AreDistinct e
 pub gone-between : (sides : Sides) → IsBetween sides → AreDistinct sides.index.now.decls → AreDistinct sides.next.now
     → (m : Events) → EventsAreWanted sides.index.now.decls m → (drops : Drops)
     → ((s : List ℕ) (vs : List Qual) → drops s vs
-    ≡ (is_kept m s vs && not (is_asked_after sides.index.now.decls sides.next.now sides.edited.now questions.Event s vs)))
+    ≡ (is_kept m s vs && not (is_asked sides.next.now questions.Event s vs)))
     → (types : List (List ℕ))
     → ((n : List ℕ) → list_any (bytes_eq n) types
     ≡ is_suspect sides.index.now.decls sides.next.now sides.edited.now sides.affected.now (keys_of m) n)

@@ -3,12 +3,13 @@ use Rattle.cdi_live.proofs.Common.{same-bool, ◌≡◌, Bool, true, false, not,
 use Rattle.cdi_live.proofs.Common.{bytes_eq, and_from, and_parts, false≢true, or_cases, or_left, or_right, Decl, Qual, ℕ, ◌||◌, Option}
 use Rattle.cdi_live.proofs.Common.{Some, None, option_map_or, Edit, DeclKey, key_of, kind_of, name_of_decl, find_decl, AreDistinct}
 use Rattle.cdi_live.proofs.Common.{edited_all, edited_keys, is_among, mentions, Mention, PointOf, asks_for, asks_in, ChoiceKey, is_wanted}
-use Rattle.cdi_live.proofs.Common.{IsPresent, all_present, found_any, witness, is_asked_after, subst, bytes_decides, Tells, parts_under}
+use Rattle.cdi_live.proofs.Common.{IsPresent, all_present, found_any, witness, edits_keep_decl, subst, bytes_decides, Tells, parts_under}
 use Rattle.cdi_live.proofs.Common.{parts-kept, is_touched, IsBetween, Sides, holds, same_quals, same_quals-decides, required, Answers}
 use Rattle.cdi_live.proofs.Common.{Choice, are_alike, sees_other, suspects, is_dropped_at}
+use Rattle.cdi_index.specs.Asked.{is_asked}
 use Rattle.cdi_index.specs.declared.asked.Question.TheVariants as questions
 use Rattle.cdi_seen.proofs.TouchedLemmas.{touched_by_parts}
-use Rattle.cdi_live.proofs.AskedLemmas.{any-among, any-elim, asked-after, wanted-is}
+use Rattle.cdi_live.proofs.AskedLemmas.{any-among, any-elim, wanted-is}
 use Rattle.cdi_live.proofs.SuspectLemmas.{beans-same, uses-alike}
 use Rattle.cdi_live.specs.{Dropped.is_dropped_by, Dropped.is_dropped_in, Dropped.is_kept, Dropped.Asks, Gone.stays_known, Stage.AreWanted}
 
@@ -83,14 +84,13 @@ module _ (edits : List Edit) (ds : List Decl) (told : List DeclKey) (distinct : 
 
   module _ (asks : Asks) (at_before : asks.before ≡ ds)
       (drops : (s : List ℕ) (vs : List Qual) → asks.drops s
-      vs ≡ (is_kept m s vs && not (is_asked_after ds es keys questions.Choice s vs))) where
+      vs ≡ (is_kept m s vs && not (is_asked es questions.Choice s vs))) where
     un-not : (b : Bool) → not b ≡ true → b ≡ false
     un-not true h = absurd (false≢true h)
     un-not false h = refl
 
     drops-own : asks.drops t us ≡ not (is_wanted es (ChoiceKey t us))
-    drops-own = drops t us ∙ ap (λ b. b && not (is_asked_after ds es keys questions.Choice t us)) kept
-        ∙ ap not (asked-after questions.Choice t us edits ds distinct apart ∙ sym (wanted-is t us es))
+    drops-own = drops t us ∙ ap (λ b. b && not (is_asked es questions.Choice t us)) kept ∙ ap not (sym (wanted-is t us es))
 
     -- what a declaration drops is what it asks for, and is not wanted
     dropped-in : (x : Mention) → is_dropped_in asks t us x ≡ (asks_in questions.Choice t us x && not (is_wanted es (ChoiceKey t us)))
@@ -146,10 +146,9 @@ module _ (edits : List Edit) (ds : List Decl) (told : List DeclKey) (distinct : 
                 ∙ ap (λ o. option_map_or (is_dropped_by asks t us) o false) found ∙ dropped-by d
                 ∙ and_from (asks_for questions.Choice t us d) (not (is_wanted es (ChoiceKey t us))) asking unwanted)
             by d found asking false none = absurd (false≢true (sym (un-not (is_wanted es (ChoiceKey t us)) unwanted)
-                ∙ sym (asked-after questions.Choice t us edits ds distinct apart ∙ sym (wanted-is t us es))
-                ∙ or_left _ _ (found_any (kind_of d) (name_of_decl d) ds d
-                (λ x. not (is_among keys (key_of x)) && asks_for questions.Choice t us x) found
-                (and_from (not (is_among keys (key_of d))) (asks_for questions.Choice t us d) (ap not none) asking))))
+                ∙ wanted-is t us es
+                ∙ found_any (kind_of d) (name_of_decl d) es d (asks_for questions.Choice t us)
+                (edits_keep_decl edits ds (kind_of d) (name_of_decl d) none ∙ found) asking))
 
     -- ---- both
 
@@ -170,7 +169,7 @@ module _ (edits : List Edit) (ds : List Decl) (told : List DeclKey) (distinct : 
 abbrev GoesOn : List Decl → List DeclKey → Answers (List Qual) Choice → Asks → List (List ℕ) → List ℕ → List Qual → List Decl
     → List DeclKey → Type 0
 GoesOn ds told m asks types t us e ks = Tells ds e ks told → AreDistinct e
-    → ((s : List ℕ) (vs : List Qual) → asks.drops s vs ≡ (is_kept m s vs && not (is_asked_after ds e ks questions.Choice s vs)))
+    → ((s : List ℕ) (vs : List Qual) → asks.drops s vs ≡ (is_kept m s vs && not (is_asked e questions.Choice s vs)))
     → ((n : List ℕ) → list_any (bytes_eq n) types ≡ holds (suspects ds e ks told) n)
     → (goes_by_type (sees_other ds e) m types t us || list_any (is_dropped_at asks t us) ks) ≡ not (stays_known ds e t us)
 
@@ -178,7 +177,7 @@ GoesOn ds told m asks types t us e ks = Tells ds e ks told → AreDistinct e
 pub gone-between : (sides : Sides) → IsBetween sides → AreDistinct sides.index.now.decls → AreDistinct sides.next.now
     → (m : Answers (List Qual) Choice) → AreWanted sides.index.now.decls m → (asks : Asks) → asks.before ≡ sides.index.now.decls
     → ((s : List ℕ) (vs : List Qual) → asks.drops s vs
-    ≡ (is_kept m s vs && not (is_asked_after sides.index.now.decls sides.next.now sides.edited.now questions.Choice s vs)))
+    ≡ (is_kept m s vs && not (is_asked sides.next.now questions.Choice s vs)))
     → (types : List (List ℕ))
     → ((n : List ℕ) → list_any (bytes_eq n) types ≡ holds
     (suspects sides.index.now.decls sides.next.now sides.edited.now sides.affected.now) n)

@@ -2,13 +2,14 @@ mod Common
 mod ListedLemmas
 pub mod AskedLemmas
 pub mod PartLemmas
-mod SoughtLemmas
 mod CompareLemmas
 mod SuspectLemmas
 mod GoneLemmas
 mod LiveLemmas
 mod ReaderLemmas
 mod InterceptorLemmas
+mod InterceptorStayLemmas
+mod TouchedChainLemmas
 mod BoundLemmas
 mod ChainSuspectLemmas
 pub mod WantedPlaceLemmas

@@ -55,9 +55,9 @@ AreRightChains ds m = (class : List ℕ) (place : BeanPlace) (names : List (List
 
 -- ---- the interceptors that are seen
 
--- the words of the types of some bindings
+-- the words of the interceptors that have a binding of one of the types of these
 abbrev pub words_bound : List Qual → List Word
-words_bound us = map (λ u. word_at reasons.Binds (name_of_use u)) us
+words_bound us = map (λ u. word_at reasons.Intercepts (name_of_use u)) us
 
 -- the enabled interceptor that a declaration is
 abbrev pub enabled_in : Decl → List InterceptorDecl

@@ -1,5 +1,5 @@
 -- The kept choices for which edited declarations asked, and for which no point asks after the edits.
-use Rattle.std.specs.Prelude.{ℕ, Bool, false, not, ◌&&◌, ◌||◌, List, is_some}
+use Rattle.std.specs.Prelude.{ℕ, Bool, false, not, ◌&&◌, List, is_some}
 use Rattle.std.specs.List.{list_any}
 use Rattle.std.specs.Option.{option_map_or}
 use Rattle.std.specs.Str.{bytes_eq}
@@ -11,8 +11,7 @@ use Rattle.cdi_model.specs.declared.quals.Qual.{Qual}
 use Rattle.cdi_model.specs.DeclList.{find_decl}
 use Rattle.cdi_model.specs.Mentions.{mentions, Mention, PointOf}
 use Rattle.cdi_effective.specs.Qualifiers.{required}
-use Rattle.cdi_index.specs.Asked.{is_asked, is_asked_by}
-use Rattle.cdi_index.specs.declared.asked.Question.{Question}
+use Rattle.cdi_index.specs.Asked.{is_asked}
 use Rattle.cdi_index.specs.declared.asked.Question.TheVariants as questions
 use Rattle.cdi_memo.specs.Answers.{answer, Answers}
 use Rattle.cdi_resolve.specs.declared.choice.Choice.{Choice}
@@ -22,11 +21,7 @@ use Rattle.cdi_live.specs.declared.dropped.Wants.{Wants}
 abbrev pub is_kept : Answers (List Qual) Choice → List ℕ → List Qual → Bool
 is_kept m t us = is_some (answer same_quals m t us)
 
--- it is asked for after the edits: by a declaration that is not edited, or by one that is
-abbrev pub is_asked_after : List Decl → List Decl → List DeclKey → Question → List ℕ → List Qual → Bool
-is_asked_after ds es keys question t us = is_asked ds question t us keys || is_asked_by es keys question t us
-
--- what is there before the edits, the kinds and names of these, and which choices are kept and not asked for after them
+-- what is there before the edits, and which choices are kept and not asked for after them
 pub record Asks : Type 0 where
   pub before : List Decl
   pub drops : List ℕ → List Qual → Bool
@@ -34,8 +29,7 @@ pub record Asks : Type 0 where
 abbrev pub asks_before : Wants → Asks
 asks_before w = record {
   before = w.sides.now.index.now.decls;
-  drops = λ t us. is_kept w.choices.now t us
-      && not (is_asked_after w.sides.now.index.now.decls w.sides.now.next.now w.sides.now.edited.now questions.Choice t us);
+  drops = λ t us. is_kept w.choices.now t us && not (is_asked w.sides.now.next.now questions.Choice t us);
 }
 
 -- a point asked for the choice, which is dropped

@@ -11,8 +11,8 @@ use Rattle.cdi_model.specs.declared.quals.Qual.{Qual}
 use Rattle.cdi_model.specs.DeclList.{find_decl}
 use Rattle.cdi_model.specs.Mentions.{mentions, Mention, EventOf}
 use Rattle.cdi_index.specs.declared.asked.Question.TheVariants as questions
+use Rattle.cdi_index.specs.Asked.{is_asked}
 use Rattle.cdi_memo.specs.Answers.{answer}
-use Rattle.cdi_live.specs.Dropped.{is_asked_after}
 use Rattle.cdi_live.specs.EventCompared.{Events}
 use Rattle.cdi_live.specs.declared.event_dropped.EventWants.{EventWants}
 
@@ -25,8 +25,7 @@ abbrev pub Drops : Type 0
 Drops = List ℕ → List Qual → Bool
 
 abbrev pub drops_before : EventWants → Drops
-drops_before w t us = is_kept w.events.now t us
-    && not (is_asked_after w.sides.now.index.now.decls w.sides.now.next.now w.sides.now.edited.now questions.Event t us)
+drops_before w t us = is_kept w.events.now t us && not (is_asked w.sides.now.next.now questions.Event t us)
 
 -- an event that may be fired is this one, which is dropped
 abbrev pub is_dropped_event : Drops → EventDecl → List ℕ → List Qual → Bool

@@ -1,82 +1,151 @@
 //! Which kept chains are not kept after a draft.
-ghost use Rattle.std.specs.Prelude.{◌≡◌, ◌&&◌, ◌||◌, IfOk, OnOk};
+ghost use Rattle.std.specs.Prelude.{◌≡◌, ◌&&◌, ◌||◌, ℕ, List, IfOk, OnOk};
 ghost use Rattle.std.specs.List.{list_any};
 ghost use Rattle.std.specs.Str.{bytes_eq};
+ghost use Rattle.cdi_match.specs.Bindings.{uses_in};
+ghost use Rattle.cdi_index.specs.Under.{bindings_in};
+ghost use Rattle.cdi_intercept.specs.Bindings.{in_text_order};
 ghost use Rattle.cdi_memo.specs.Answers.{parts_under};
 ghost use Rattle.cdi_observe.specs.Keys.{same_place, ChainKey};
 ghost use Rattle.cdi_seen.specs.Touched.{is_touched};
-ghost use Rattle.cdi_live.specs.ChainGone.{goes, is_gone_chain, is_place_of};
+ghost use Rattle.cdi_live.specs.ChainCompared.{see_same_interceptors, set_bound, AreBound, IsBound};
+ghost use Rattle.cdi_live.specs.ChainGone.{goes, is_gone_chain};
 ghost use Rattle.cdi_live.specs.Compared.{IsBetween};
 
 use crate::chain_gone::{GoneChain, push_gone_chain};
 use crate::chain_place::ChainPlace;
-use crate::compare::positions_after;
 use crate::interceptors::{push_bound_words, seen_at};
 use crate::sides::Sides;
 use cdi_intercept::{bindings_seen, has_place};
 use cdi_memo::Memo;
-use cdi_model::{BeanPlace, Decl, Decls, Kind, Name, Seq};
-use cdi_seen::is_chain_touched_by;
+use cdi_model::{BeanDecl, BeanPlace, Decl, Decls, Kind, Name, Qual, Seq};
+use cdi_seen::{same_as_written, same_interceptors, same_types};
 use std::alloc::{AllocError, Global};
 
-/// Whether the bean of a class has a place.
-pub(crate) fn is_place_of(decls: &Decls, class: &Name, place: &BeanPlace) -> bool
-    ensures { result ≡ is_place_of decls.now class.now place.now }
+/// A bean, with the bindings of its class.
+#[derive(Clone, Copy)]
+pub(crate) struct BoundBean<'a> {
+    pub(crate) bean: &'a BeanDecl,
+    pub(crate) class: &'a [Qual],
+}
+
+/// The bean of a class, which has these bindings.
+fn bound<'a>(decls: &'a Decls, class: &Name, bindings: &'a [Qual]) -> Option<BoundBean<'a>>
+    requires { bindings.now ≡ bindings_in decls.now class.now }
+    ensures { IsBound decls.now class.now result }
 {
     match decls.get(Kind::Bean, class) {
-        Some(Decl::Bean(bean)) => has_place(bean, place),
-        _ => false,
+        Some(Decl::Bean(bean)) => Some(BoundBean {
+            bean,
+            class: bindings,
+        }),
+        _ => None,
     }
 }
 
-/// Whether the chain around a place sees something else after the draft. It looks at the interceptors that have a binding of
-/// one of the types at the place, before or after.
-fn is_touched(
+/// The bean of a class before the draft and after it.
+#[derive(Clone, Copy)]
+pub(crate) struct BeanSides<'a> {
+    pub(crate) before: Option<BoundBean<'a>>,
+    pub(crate) after: Option<BoundBean<'a>>,
+}
+
+/// That of a class.
+fn both<'a>(sides: &Sides<'a>, class: &Name) -> BeanSides<'a>
+    ensures { AreBound sides.now.index.now.decls sides.now.next.now class.now result }
+{
+    let index = sides.index;
+    let next = sides.next;
+    BeanSides {
+        before: bound(index.decls(), class, index.class_bindings(class)),
+        after: bound(next.decls(), class, next.class_bindings(class)),
+    }
+}
+
+/// The bindings at a place of a bean, if there is one: each once, in the byte order of their texts.
+#[tactic(auto, unfolding(cdi_effective::specs::TextOrder::in_text_order))]
+fn bindings_at<'a>(
+    alloc: Global,
+    decls: &'a Decls,
+    bound: Option<BoundBean<'a>>,
+    place: &BeanPlace,
+) -> Result<Vec<&'a Qual>, AllocError>
+    ensures { IfOk result (λ list. uses_in list.items ≡ in_text_order (set_bound decls.now bound.entry place.now)) }
+{
+    match bound {
+        Some(BoundBean { bean, class }) => bindings_seen(alloc, decls, class, bean, place),
+        None => Ok(Vec::new(alloc)),
+    }
+}
+
+/// Whether a place with some bindings sees the same interceptors before and after the draft. It looks at those that have a
+/// binding of one of their types, before or after.
+fn see_same_interceptors(
     alloc: Global,
     sides: &Sides<'_>,
-    class: Name,
+    bindings: &[&Qual],
     place: &BeanPlace,
 ) -> Result<bool, AllocError>
     requires { IsBetween sides.now }
-    ensures { IfOk result (λ is. is ≡ is_touched sides.now.index.now.decls sides.now.next.now (ChainKey class place.now)) }
+    ensures { IfOk result (λ is. is ≡ see_same_interceptors sides.now.index.now.decls sides.now.next.now (uses_in bindings.now) place.now) }
 {
-    let olds = bindings_seen(alloc, sides.index.decls(), class, place)?;
-    let news = bindings_seen(alloc, sides.next.decls(), class, place)?;
+    if !sides.moves_interceptors {
+        return Ok(true);
+    }
     let mut words = Vec::new(alloc);
-    push_bound_words(olds.as_slice(), &mut words)?;
-    push_bound_words(news.as_slice(), &mut words)?;
-    let before = sides.index.positions_under(words.as_slice());
-    let after = positions_after(sides, &before, words.as_slice());
-    let old_seen = seen_at(alloc, sides.index.decls(), &before, olds.as_slice(), place)?;
-    let new_seen = seen_at(alloc, sides.next.decls(), &after, news.as_slice(), place)?;
-    is_chain_touched_by(
-        alloc,
-        sides.index.decls(),
-        &old_seen,
-        sides.next.decls(),
-        &new_seen,
-        class,
-        place,
-    )
+    push_bound_words(bindings, &mut words)?;
+    let before = sides.index.positions_under(&words);
+    let after = sides.next.positions_under(&words);
+    let olds = seen_at(alloc, sides.index.decls(), &before, bindings, place)?;
+    let news = seen_at(alloc, sides.next.decls(), &after, bindings, place)?;
+    same_interceptors(alloc, sides.index.decls(), &olds, sides.next.decls(), &news)
+}
+
+/// Whether the chain around a place of a bean sees something else after the draft.
+fn is_touched(
+    alloc: Global,
+    sides: &Sides<'_>,
+    both: BeanSides<'_>,
+    place: &BeanPlace,
+) -> Result<bool, AllocError>
+    requires { IsBetween sides.now }
+    ensures { IfOk result (λ is. (class : List ℕ) → AreBound sides.now.index.now.decls sides.now.next.now class both.entry
+        → is ≡ is_touched sides.now.index.now.decls sides.now.next.now (ChainKey class place.now)) }
+{
+    let olds = bindings_at(alloc, sides.index.decls(), both.before, place)?;
+    let news = bindings_at(alloc, sides.next.decls(), both.after, place)?;
+    if !same_as_written(&olds, &news) {
+        return Ok(true);
+    }
+    if !same_types(sides.index.decls(), &olds, sides.next.decls(), &news) {
+        return Ok(true);
+    }
+    let is_same = see_same_interceptors(alloc, sides, &olds, place)?;
+    Ok(!is_same)
 }
 
 /// Appends a chain, if its place is there no more after the draft, or it sees something else then.
 fn push_if_gone(
     alloc: Global,
     sides: &Sides<'_>,
+    both: BeanSides<'_>,
     class: &Name,
     place: &BeanPlace,
     gone: &mut Vec<GoneChain>,
 ) -> Result<(), AllocError>
-    requires { IsBetween sides.now }
+    requires between { IsBetween sides.now }
+    requires bound { AreBound sides.now.index.now.decls sides.now.next.now class.now both }
     ensures { OnOk result ((c : _) (p : _) → is_gone_chain gone.new.items c p ≡ (is_gone_chain gone.old.items c p
         || (bytes_eq c class.now && (same_place p place.now
         && goes sides.now.index.now.decls sides.now.next.now class.now place.now)))) }
 {
-    if !is_place_of(sides.next.decls(), class, place) {
+    let Some(after) = both.after else {
+        return push_gone_chain(class, place, gone);
+    };
+    if !has_place(after.bean, place) {
         return push_gone_chain(class, place, gone);
     }
-    if !is_touched(alloc, sides, *class, place)? {
+    if !is_touched(alloc, sides, both, place)? {
         return Ok(());
     }
     push_gone_chain(class, place, gone)
@@ -95,9 +164,13 @@ fn push_gone_of_class(
         || (bytes_eq c class.now && list_any (λ q. same_place p q && goes sides.now.index.now.decls sides.now.next.now class.now q)
         (parts_under chains.now class.now)))) }
 {
+    if chains.part_at(class, 0).is_none() {
+        return Ok(());
+    }
+    let both = both(sides, class);
     let mut index = 0;
     'parts: while let Some(part) = chains.part_at(class, index) {
-        push_if_gone(alloc, sides, class, &part.place(), gone)?;
+        push_if_gone(alloc, sides, both, class, &part.place(), gone)?;
         index += 1;
     }
     Ok(())

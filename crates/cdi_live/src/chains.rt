@@ -1,10 +1,11 @@
 //! Chains that are kept.
 ghost use Rattle.std.specs.Prelude.{◌≡◌, ◌&&◌, true, filter, map, Some, None, if◌then◌else◌, IfOk, OnOk, OnErr};
 ghost use Rattle.std.specs.Str.{bytes_eq};
-ghost use Rattle.cdi_intercept.specs.Bindings.{set_at};
+ghost use Rattle.cdi_match.specs.Bindings.{uses_in};
 ghost use Rattle.cdi_intercept.specs.Chains.{chain_of, surrounds};
 ghost use Rattle.cdi_intercept.specs.Lent.{lent_in};
 ghost use Rattle.cdi_intercept.specs.Sees.{names_around};
+ghost use Rattle.cdi_intercept.specs.Sets.{set_by};
 ghost use Rattle.cdi_memo.specs.Answers.{answer};
 ghost use Rattle.cdi_model.specs.Answering.{Answers};
 ghost use Rattle.cdi_model.specs.DeclList.{AreDistinct};
@@ -17,10 +18,9 @@ use crate::chain_place::ChainPlace;
 use crate::interceptors::{push_bound_words, seen_at};
 use cdi_index::Index;
 use cdi_intercept::{bindings_seen, has_place, surrounds};
-use cdi_match::push_uses;
 use cdi_memo::Memo;
 use cdi_model::{
-    BeanPlace, Decl, Decls, Error, InterceptorDecl, Kind, Name, Qual, Refusal, Seq, Work,
+    BeanDecl, BeanPlace, Decl, Decls, Error, InterceptorDecl, Kind, Name, Qual, Refusal, Seq, Work,
 };
 use std::alloc::{AllocError, Global};
 
@@ -29,39 +29,39 @@ fn names_among(
     alloc: Global,
     decls: &Decls,
     seen: &[&InterceptorDecl],
-    bindings: &[Qual],
+    bindings: &[&Qual],
     place: &BeanPlace,
 ) -> Result<Seq<Name>, AllocError>
     ensures { IfOk result (λ names. names
-        ≡ map (λ i. i.name) (filter (surrounds decls.now bindings.now place.now) (lent_in seen.now))) }
+        ≡ map (λ i. i.name) (filter (surrounds decls.now (uses_in bindings.now) place.now) (lent_in seen.now))) }
 {
-    let mut set = Vec::with_capacity(alloc, bindings.len())?;
-    push_uses(&mut set, bindings)?;
     let mut names = Seq::new(alloc);
     for interceptor in seen {
-        if surrounds(decls, &set, place, interceptor) {
+        if surrounds(decls, bindings, place, interceptor) {
             names.push(interceptor.name)?;
         }
     }
     Ok(names)
 }
 
-/// The names of the interceptors around a place of the bean of a class, in order. It looks at the interceptors that have a
-/// binding of one of the types at the place, and at no others.
+/// The names of the interceptors around a place of a bean whose class has these bindings, in order. It looks at the
+/// interceptors that have a binding of one of the types at the place, and at no others.
 fn names_around(
     alloc: Global,
     index: &Index,
-    class: Name,
+    class: &[Qual],
+    bean: &BeanDecl,
     place: &BeanPlace,
 ) -> Result<Seq<Name>, AllocError>
-    ensures { IfOk result (λ names. names ≡ names_around index.now.decls (set_at index.now.decls class place.now) place.now) }
+    ensures { IfOk result (λ names. names
+        ≡ names_around index.now.decls (set_by index.now.decls class.now bean.now place.now) place.now) }
 {
-    let bindings = bindings_seen(alloc, index.decls(), class, place)?;
+    let bindings = bindings_seen(alloc, index.decls(), class, bean, place)?;
     let mut words = Vec::new(alloc);
-    push_bound_words(bindings.as_slice(), &mut words)?;
-    let positions = index.positions_under(words.as_slice());
-    let seen = seen_at(alloc, index.decls(), &positions, bindings.as_slice(), place)?;
-    names_among(alloc, index.decls(), &seen, bindings.as_slice(), place)
+    push_bound_words(&bindings, &mut words)?;
+    let positions = index.positions_under(&words);
+    let seen = seen_at(alloc, index.decls(), &positions, &bindings, place)?;
+    names_among(alloc, index.decls(), &seen, &bindings, place)
 }
 
 /// The names of the interceptors around a place of the bean of a class, in order. It is refused with `UnknownName` where no
@@ -77,7 +77,8 @@ fn chain(alloc: Global, index: &Index, class: Name, place: &BeanPlace) -> Result
     if !has_place(bean, place) {
         return Err(Refusal::NoMethod.into());
     }
-    Ok(names_around(alloc, index, class, place)?)
+    let names = names_around(alloc, index, index.class_bindings(&class), bean, place)?;
+    Ok(names)
 }
 
 /// Copies of some names.

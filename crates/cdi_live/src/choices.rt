@@ -61,7 +61,7 @@ fn keep(
         name: &bean_type,
         uses: uses.as_slice(),
     };
-    if !index.is_asked(asked, &[]) {
+    if !index.is_asked(asked) {
         return Ok(());
     }
     let part = uses.copy()?;

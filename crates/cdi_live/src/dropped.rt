@@ -3,7 +3,7 @@ ghost use Rattle.std.specs.Prelude.{◌≡◌, ◌||◌, ◌∷◌, [], OnOk};
 ghost use Rattle.std.specs.List.{list_any};
 ghost use Rattle.cdi_model.specs.Mentions.{shown};
 ghost use Rattle.cdi_effective.specs.Qualifiers.{default_use};
-ghost use Rattle.cdi_live.specs.Dropped.{asks_before, is_asked_after, is_dropped_at, is_dropped_by, is_dropped_by_point, is_dropped_in};
+ghost use Rattle.cdi_live.specs.Dropped.{asks_before, is_dropped_at, is_dropped_by, is_dropped_by_point, is_dropped_in};
 ghost use Rattle.cdi_live.specs.Gone.{is_gone};
 
 use crate::choices::required_of;
@@ -13,7 +13,7 @@ use cdi_index::{Asked, Question};
 use cdi_memo::Memo;
 use cdi_model::{Decl, DeclKey, Mention, PointDecl, Quals};
 use cdi_resolve::Choice;
-use std::alloc::{AllocError, Global};
+use std::alloc::AllocError;
 
 /// What is asked whether it is wanted after a draft.
 #[derive(Drop)]
@@ -24,18 +24,8 @@ pub(crate) struct Wants<'a> {
     pub(crate) by_default: &'a Quals,
 }
 
-/// Whether a declaration asks for it after the draft. It looks at those that ask for the type, and at those that are
-/// edited.
-pub(crate) fn is_asked_after(alloc: Global, sides: &Sides<'_>, asked: Asked<'_>) -> bool
-    ensures { result ≡ is_asked_after sides.now.index.now.decls sides.now.next.now sides.now.edited.now
-        asked.entry.question asked.entry.name.now asked.entry.uses.now }
-{
-    sides.index.is_asked(asked, sides.edited) || sides.next.is_asked_by(alloc, sides.edited, asked)
-}
-
 /// Appends what a point of an edited declaration asks for, if it is kept and no point asks for it after the draft.
 fn push_dropped_by_point(
-    alloc: Global,
     wants: &Wants<'_>,
     point: &PointDecl,
     gone: &mut Vec<Gone>,
@@ -54,7 +44,7 @@ fn push_dropped_by_point(
         name: bean_type,
         uses: uses.as_slice(),
     };
-    if is_asked_after(alloc, wants.sides, asked) {
+    if wants.sides.next.is_asked(asked) {
         return Ok(());
     }
     push_gone(bean_type, uses, gone)
@@ -62,7 +52,6 @@ fn push_dropped_by_point(
 
 /// Appends that of what is named in a place.
 fn push_dropped_in(
-    alloc: Global,
     wants: &Wants<'_>,
     mention: &Mention<'_>,
     gone: &mut Vec<Gone>,
@@ -72,32 +61,26 @@ fn push_dropped_in(
         ≡ (is_gone gone.old.items t us || is_dropped_in (asks_before wants.now) t us (shown mention.now))) }
 {
     match mention {
-        Mention::Point(_, point) => push_dropped_by_point(alloc, wants, point, gone),
+        Mention::Point(_, point) => push_dropped_by_point(wants, point, gone),
         _ => Ok(()),
     }
 }
 
 /// Appends those of an edited declaration.
 #[tactic(auto, unfolding(crate::specs::Dropped::is_dropped_by))]
-fn push_dropped_by(
-    alloc: Global,
-    wants: &Wants<'_>,
-    decl: &Decl,
-    gone: &mut Vec<Gone>,
-) -> Result<(), AllocError>
+fn push_dropped_by(wants: &Wants<'_>, decl: &Decl, gone: &mut Vec<Gone>) -> Result<(), AllocError>
     requires { wants.now.by_default.now ≡ default_use ∷ [] }
     ensures { OnOk result ((t : _) (us : _) → is_gone gone.new.items t us
         ≡ (is_gone gone.old.items t us || is_dropped_by (asks_before wants.now) t us decl.now)) }
 {
     for mention in decl.mentions() {
-        push_dropped_in(alloc, wants, &mention, gone)?;
+        push_dropped_in(wants, &mention, gone)?;
     }
     Ok(())
 }
 
 /// Appends those of the declarations of some keys, as they are before the draft.
 pub(crate) fn push_dropped(
-    alloc: Global,
     wants: &Wants<'_>,
     keys: &[DeclKey],
     gone: &mut Vec<Gone>,
@@ -108,7 +91,7 @@ pub(crate) fn push_dropped(
 {
     for key in keys {
         if let Some(decl) = wants.sides.index.decls().get(key.kind, &key.name) {
-            push_dropped_by(alloc, wants, decl, gone)?;
+            push_dropped_by(wants, decl, gone)?;
         }
     }
     Ok(())

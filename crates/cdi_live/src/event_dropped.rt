@@ -5,14 +5,13 @@ ghost use Rattle.cdi_model.specs.Mentions.{shown};
 ghost use Rattle.cdi_live.specs.EventDropped.{drops_before, is_dropped_at, is_dropped_by, is_dropped_event, is_dropped_in};
 ghost use Rattle.cdi_live.specs.Gone.{is_gone};
 
-use crate::dropped::is_asked_after;
 use crate::gone::{Gone, push_gone};
 use crate::sides::Sides;
 use cdi_index::{Asked, Question};
 use cdi_memo::Memo;
 use cdi_model::{Decl, DeclKey, EventDecl, Mention, Quals, Seq};
 use cdi_observe::ObserverId;
-use std::alloc::{AllocError, Global};
+use std::alloc::AllocError;
 
 /// Of what is asked whether it is wanted after a draft.
 #[derive(Drop)]
@@ -23,7 +22,6 @@ pub(crate) struct EventWants<'a> {
 
 /// Appends an event that an edited declaration may fire, if it is kept and no body may fire it after the draft.
 fn push_dropped_event(
-    alloc: Global,
     wants: &EventWants<'_>,
     event: &EventDecl,
     gone: &mut Vec<Gone>,
@@ -43,7 +41,7 @@ fn push_dropped_event(
         name: &event.event_type,
         uses: event.qualifiers.as_slice(),
     };
-    if is_asked_after(alloc, wants.sides, asked) {
+    if wants.sides.next.is_asked(asked) {
         return Ok(());
     }
     push_gone(&event.event_type, &event.qualifiers, gone)
@@ -51,7 +49,6 @@ fn push_dropped_event(
 
 /// Appends that which is named in a place.
 fn push_dropped_in(
-    alloc: Global,
     wants: &EventWants<'_>,
     mention: &Mention<'_>,
     gone: &mut Vec<Gone>,
@@ -60,7 +57,7 @@ fn push_dropped_in(
         ≡ (is_gone gone.old.items t us || is_dropped_in (drops_before wants.now) t us (shown mention.now))) }
 {
     match mention {
-        Mention::Event(event) => push_dropped_event(alloc, wants, event, gone),
+        Mention::Event(event) => push_dropped_event(wants, event, gone),
         _ => Ok(()),
     }
 }
@@ -68,7 +65,6 @@ fn push_dropped_in(
 /// Appends those of an edited declaration.
 #[tactic(auto, unfolding(crate::specs::EventDropped::is_dropped_by))]
 fn push_dropped_by(
-    alloc: Global,
     wants: &EventWants<'_>,
     decl: &Decl,
     gone: &mut Vec<Gone>,
@@ -77,14 +73,13 @@ fn push_dropped_by(
         ≡ (is_gone gone.old.items t us || is_dropped_by (drops_before wants.now) t us decl.now)) }
 {
     for mention in decl.mentions() {
-        push_dropped_in(alloc, wants, &mention, gone)?;
+        push_dropped_in(wants, &mention, gone)?;
     }
     Ok(())
 }
 
 /// Appends those of the declarations of some keys, as they are before the draft.
 pub(crate) fn push_dropped_events(
-    alloc: Global,
     wants: &EventWants<'_>,
     keys: &[DeclKey],
     gone: &mut Vec<Gone>,
@@ -94,7 +89,7 @@ pub(crate) fn push_dropped_events(
 {
     for key in keys {
         if let Some(decl) = wants.sides.index.decls().get(key.kind, &key.name) {
-            push_dropped_by(alloc, wants, decl, gone)?;
+            push_dropped_by(wants, decl, gone)?;
         }
     }
     Ok(())

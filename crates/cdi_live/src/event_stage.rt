@@ -26,6 +26,6 @@ pub(crate) fn gone_events_after(
     let types = event_suspects(alloc, sides, events)?;
     let mut gone = touched_of_types(alloc, sides, events, types.as_slice())?;
     let wants = EventWants { sides, events };
-    push_dropped_events(alloc, &wants, sides.edited, &mut gone)?;
+    push_dropped_events(&wants, sides.edited, &mut gone)?;
     Ok(gone)
 }

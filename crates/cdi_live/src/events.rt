@@ -48,7 +48,7 @@ fn keep_event(
         name: &event_type,
         uses: quals.as_slice(),
     };
-    if !index.is_asked(asked, &[]) {
+    if !index.is_asked(asked) {
         return Ok(());
     }
     let part = quals.copy()?;

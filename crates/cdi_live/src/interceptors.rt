@@ -1,5 +1,6 @@
 //! The interceptors that a chain sees, by the words of their bindings.
 ghost use Rattle.std.specs.Prelude.{◌≡◌, ◌++◌, false, Some, [], filter, flat_map, slice_get, IfOk, OnOk};
+ghost use Rattle.cdi_match.specs.Bindings.{uses_in};
 ghost use Rattle.cdi_intercept.specs.Chains.{in_order};
 ghost use Rattle.cdi_intercept.specs.Lent.{lent_in};
 ghost use Rattle.cdi_intercept.specs.Sees.{is_seen};
@@ -12,13 +13,13 @@ use cdi_positions::PositionSet;
 use cdi_postings::{Reason, Word};
 use std::alloc::{AllocError, Global};
 
-/// Appends the words of the types of some bindings.
-pub(crate) fn push_bound_words(uses: &[Qual], words: &mut Vec<Word>) -> Result<(), AllocError>
-    ensures { OnOk result (words.new.items ≡ words.old.items ++ words_bound uses.now) }
+/// Appends the words of the interceptors that have a binding of one of the types of these.
+pub(crate) fn push_bound_words(uses: &[&Qual], words: &mut Vec<Word>) -> Result<(), AllocError>
+    ensures { OnOk result (words.new.items ≡ words.old.items ++ words_bound (uses_in uses.now)) }
 {
     for binding in uses {
         words.push(Word {
-            reason: Reason::Binds,
+            reason: Reason::Intercepts,
             name: binding.name,
         })?;
     }
@@ -60,12 +61,12 @@ pub(crate) fn seen_at<'a>(
     alloc: Global,
     decls: &'a Decls,
     positions: &PositionSet,
-    bindings: &[Qual],
+    bindings: &[&Qual],
     place: &BeanPlace,
 ) -> Result<Vec<&'a InterceptorDecl>, AllocError>
     requires { (p : _) (d : _) → slice_get decls.now p ≡ Some d → is_marked positions.now p ≡ false
-        → filter (is_seen bindings.now place.now) (enabled_in d) ≡ [] }
-    ensures { IfOk result (λ list. lent_in list.items ≡ filter (is_seen bindings.now place.now) (in_order decls.now)) }
+        → filter (is_seen (uses_in bindings.now) place.now) (enabled_in d) ≡ [] }
+    ensures { IfOk result (λ list. lent_in list.items ≡ filter (is_seen (uses_in bindings.now) place.now) (in_order decls.now)) }
 {
     let list = sorted_by_priority(enabled_at(alloc, decls, positions)?)?;
     seen_around(alloc, &list, bindings, place)

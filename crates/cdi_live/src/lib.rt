@@ -7,7 +7,6 @@ mod chain_place;
 mod chain_stage;
 mod chain_suspects;
 mod chains;
-mod changed;
 mod choices;
 mod compare;
 mod dropped;

@@ -3,13 +3,12 @@ ghost use Rattle.std.specs.Prelude.{◌≡◌, ◌∷◌, [], true, is_some, Som
 ghost use Rattle.cdi_effective.specs.Qualifiers.{default_use};
 ghost use Rattle.cdi_index.specs.State.{staged_by, IsEdited};
 ghost use Rattle.cdi_index.specs.Told.{Tells};
-ghost use Rattle.cdi_live.specs.Compared.{IsBetween};
+ghost use Rattle.cdi_live.specs.Compared.{has_interceptor, is_interceptor, IsBetween};
 ghost use Rattle.cdi_live.specs.Concerned.{Concerns};
 ghost use Rattle.cdi_live.specs.Kept.{AreAsked, AreGoing};
 ghost use Rattle.cdi_live.specs.State.{seen};
 
 use crate::chain_stage::gone_chains_after;
-use crate::changed::changed_by_word;
 use crate::dropped::Wants;
 use crate::event_stage::gone_events_after;
 use crate::memos::{Going, Memos};
@@ -17,7 +16,7 @@ use crate::moved::concerned_by;
 use crate::sides::Sides;
 use crate::stage::gone_after;
 use cdi_index::{Draft, Index};
-use cdi_model::{DeclKey, Quals};
+use cdi_model::{DeclKey, Kind, Quals};
 use std::alloc::{AllocError, Global};
 
 /// Copies of some keys.
@@ -36,6 +35,19 @@ fn copy_keys(alloc: Global, keys: &[DeclKey]) -> Result<Vec<DeclKey>, AllocError
 struct Keys {
     edited: Vec<DeclKey>,
     affected: Vec<DeclKey>,
+}
+
+/// Whether one of some keys is that of an interceptor.
+fn has_interceptor(keys: &[DeclKey]) -> bool
+    ensures { result ≡ has_interceptor keys.now }
+{
+    keys.iter().any(|key| is_interceptor(key.kind))
+}
+
+fn is_interceptor(kind: Kind) -> bool
+    ensures { result ≡ is_interceptor kind }
+{
+    matches!(kind, Kind::Interceptor)
 }
 
 /// The answers that are kept.
@@ -87,13 +99,12 @@ fn going_between(
         AreGoing index.now.decls next.decls kept.now.memos.now going)) }
 {
     let next = index.next().unwrap();
-    let changed = changed_by_word(alloc, &next, keys.affected.as_slice())?;
     let sides = Sides {
         index,
         next: &next,
         edited: keys.edited.as_slice(),
         affected: keys.affected.as_slice(),
-        changed: &changed,
+        moves_interceptors: has_interceptor(keys.affected.as_slice()),
     };
     going_after(alloc, &sides, kept)
 }

@@ -2,7 +2,6 @@
 
 use cdi_index::{Index, NextIndex};
 use cdi_model::DeclKey;
-use cdi_postings::Postings;
 
 /// The declarations before a draft that is staged, and after it.
 #[derive(Drop)]
@@ -13,6 +12,6 @@ pub(crate) struct Sides<'a> {
     pub(crate) edited: &'a [DeclKey],
     /// Those of the declarations that the edits affect.
     pub(crate) affected: &'a [DeclKey],
-    /// The positions of the affected ones after the draft, listed under the words by which these are found.
-    pub(crate) changed: &'a Postings,
+    /// Whether interceptors are among them.
+    pub(crate) moves_interceptors: bool,
 }

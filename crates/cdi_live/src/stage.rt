@@ -20,6 +20,6 @@ pub(crate) fn gone_after(alloc: Global, wants: &Wants<'_>) -> Result<Vec<Gone>, 
     let sides = wants.sides;
     let types = suspects(alloc, sides)?;
     let mut gone = gone_of_types(alloc, sides, wants.choices, types.as_slice())?;
-    push_dropped(alloc, wants, sides.edited, &mut gone)?;
+    push_dropped(wants, sides.edited, &mut gone)?;
     Ok(gone)
 }

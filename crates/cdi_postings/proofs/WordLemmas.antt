@@ -13,7 +13,8 @@ writing (suc zero) = reasons.Writes kinds.Qualifier
 writing (suc (suc zero)) = reasons.Writes kinds.Binding
 writing (suc (suc (suc zero))) = reasons.Writes kinds.Stereotype
 writing (suc (suc (suc (suc zero)))) = reasons.Writes kinds.Bean
-writing (suc (suc (suc (suc (suc n))))) = reasons.Writes kinds.Interceptor
+writing (suc (suc (suc (suc (suc zero))))) = reasons.Writes kinds.Interceptor
+writing (suc (suc (suc (suc (suc (suc n)))))) = reasons.Intercepts
 
 -- from that of what has a type
 later : ℕ → Reason
@@ -53,6 +54,7 @@ reason_again reasons.Asks = refl
 reason_again reasons.Qualifies = refl
 reason_again reasons.Fires = refl
 reason_again reasons.Binds = refl
+reason_again reasons.Intercepts = refl
 reason_again (reasons.Writes kinds.Type) = refl
 reason_again (reasons.Writes kinds.Qualifier) = refl
 reason_again (reasons.Writes kinds.Binding) = refl

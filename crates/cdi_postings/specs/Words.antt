@@ -21,6 +21,7 @@ reason_number reasons.Asks = 10
 reason_number reasons.Qualifies = 11
 reason_number reasons.Fires = 12
 reason_number reasons.Binds = 13
+reason_number reasons.Intercepts = 20
 reason_number (reasons.Writes kind) = 14 + kind_number kind
 
 -- the words have one reason and one name

@@ -27,6 +27,8 @@ pub enum Reason {
     Fires,
     /// A bean of it, or a method of one, has a binding of the type, or it is an interceptor with one.
     Binds,
+    /// It is an interceptor with a binding of the type.
+    Intercepts,
     /// It writes the name as that of a declaration of a kind.
     Writes(Kind),
 }
@@ -58,6 +60,7 @@ impl Reason {
             Reason::Qualifies => 11,
             Reason::Fires => 12,
             Reason::Binds => 13,
+            Reason::Intercepts => 20,
             Reason::Writes(Kind::Type) => 14,
             Reason::Writes(Kind::Qualifier) => 15,
             Reason::Writes(Kind::Binding) => 16,

@@ -1,4 +1,6 @@
 -- A declaration is listed under the words of what it asks for.
+use Rattle.cdi_model.specs.declared.decl.InterceptorDecl.{InterceptorDecl}
+use Rattle.cdi_index.proofs.NamedLemmas.{among-interceptor}
 use Rattle.cdi_report.proofs.Common.{◌≡◌, ℕ, true, List, [], ◌∷◌, ◌++◌, map, flat_map, refl, sym, ap, subst, ◌∙◌, AllByRecursion}
 use Rattle.cdi_report.proofs.Common.{option_to_list, or_left, or_right, list_any-append, key_at, mentions, Mention, UseOf, BeanDecl, Decl}
 use Rattle.cdi_report.proofs.Common.{Qual, PointDecl, Word, same_word, word_at, words_have, words_named_in, words_of_uses, points_of, ◌||◌}
@@ -150,6 +152,10 @@ chains-listed ds b (place ∷ places) = (refl, chains-listed ds b places)
 bean-named : (ds : List Decl) (b : BeanDecl) → HasNamed ds (decls.Bean b) (mentions (decls.Bean b))
 bean-named ds b w h = grind (arith, b.observers, list_any-append, among-named)
 
+-- and so has an interceptor
+interceptor-named : (ds : List Decl) (i : InterceptorDecl) → HasNamed ds (decls.Interceptor i) (mentions (decls.Interceptor i))
+interceptor-named ds i w h = among-interceptor (decls.Interceptor i) w (among-named (decls.Interceptor i) w h)
+
 -- a fact holds of each of none
 none-listed : {X : Type 0} (P : X → Type 0) (xs : List X) → xs ≡ [] → AllByRecursion P xs
 none-listed P xs none = subst (AllByRecursion P) (sym none) tt
@@ -157,7 +163,7 @@ none-listed P xs none = subst (AllByRecursion P) (sym none) tt
 pub points-listed : (ds : List Decl) (d : Decl) → AllByRecursion (IsPointListed ds d) (points_of d)
 points-listed ds (decls.Bean b) = points-named ds (decls.Bean b) (mentions (decls.Bean b)) (bean-named ds b)
 points-listed ds (decls.Interceptor i) =
-    points-named ds (decls.Interceptor i) (mentions (decls.Interceptor i)) (among-named (decls.Interceptor i))
+    points-named ds (decls.Interceptor i) (mentions (decls.Interceptor i)) (interceptor-named ds i)
 points-listed ds (decls.Type t) =
     none-listed (IsPointListed ds (decls.Type t)) (points_of (decls.Type t)) (none-of-type point_named no-points t)
 points-listed ds (decls.Qualifier q) =
@@ -170,7 +176,7 @@ points-listed ds (decls.Stereotype s) =
 events-listed : (ds : List Decl) (d : Decl) → AllByRecursion (IsListed ds d) (events_by d)
 events-listed ds (decls.Bean b) = events-named ds (decls.Bean b) (mentions (decls.Bean b)) (bean-named ds b)
 events-listed ds (decls.Interceptor i) =
-    events-named ds (decls.Interceptor i) (mentions (decls.Interceptor i)) (among-named (decls.Interceptor i))
+    events-named ds (decls.Interceptor i) (mentions (decls.Interceptor i)) (interceptor-named ds i)
 events-listed ds (decls.Type t) =
     none-listed (IsListed ds (decls.Type t)) (events_by (decls.Type t)) (none-of-type event_in no-events t)
 events-listed ds (decls.Qualifier q) =

@@ -18,7 +18,7 @@ use Rattle.cdi_model.specs.declared.decl.UseKind.TheVariants as uses
 use Rattle.cdi_postings.specs.declared.word.Reason.{Reason}
 use Rattle.cdi_postings.specs.declared.word.Reason.TheVariants as reasons
 use Rattle.cdi_index.specs.Made.{reads}
-use Rattle.cdi_index.proofs.NamedLemmas.{among-written}
+use Rattle.cdi_index.proofs.NamedLemmas.{among-interceptor, among-written}
 use Rattle.cdi_live.proofs.AskedLemmas.{any-among}
 use Rattle.cdi_concern.specs.Concern.{types_of_beans, is_inherited, is_of_kind, is_stereotype}
 use Rattle.cdi_report.proofs.{ApartLemmas.first-has, OfferLemmas.offers_type, OfferLemmas.one-offers, SparedLemmas.among-map}
@@ -327,7 +327,7 @@ unfolding mentions
 chosen-still edits ds m (decls.Bean b) distinct found same it = named-had edits ds m (decls.Bean b) distinct found same it
     (named-in-bean ds b) it.chains
 chosen-still edits ds m (decls.Interceptor i) distinct found same it =
-    named-had edits ds m (decls.Interceptor i) distinct found same it (λ w h. h) it.chains
+    named-had edits ds m (decls.Interceptor i) distinct found same it (among-interceptor (decls.Interceptor i)) it.chains
 chosen-still edits ds m (decls.Type t) distinct found same it = pointless edits ds m (decls.Type t) distinct found same it
     (neither (map (TypeIn types.Extends) (option_to_list t.extends)) (map (TypeIn types.Implements) t.implements)
     (no-type types.Extends (option_to_list t.extends)) (no-type types.Implements t.implements))
@@ -347,7 +347,7 @@ unfolding mentions
 names-apart edits ds m (decls.Bean b) distinct found same tells it =
     named-apart edits ds m (decls.Bean b) distinct found same it (named-in-bean ds b)
 names-apart edits ds m (decls.Interceptor i) distinct found same tells it =
-    named-apart edits ds m (decls.Interceptor i) distinct found same it (λ w h. h)
+    named-apart edits ds m (decls.Interceptor i) distinct found same it (among-interceptor (decls.Interceptor i))
 names-apart edits ds m (decls.Type t) distinct found same tells it =
     supers-apart edits ds m.affected.now tells t found (firsts edits ds m (decls.Type t) distinct found same it).1
 names-apart edits ds m (decls.Binding b) distinct found same tells it =

@@ -1,6 +1,6 @@
-use Rattle.cdi_index.proofs.Common.{◌≡◌, list_any, is_asker_at, drop}
+use Rattle.cdi_index.proofs.Common.{◌≡◌, list_any, is_asker, drop}
 use Rattle.cdi_index.proofs.asked.is_asked_at.Given as goal
 
 abbrev pub invariant-loop-slot : goal.invariant-loop-slot
-invariant-loop-slot l = list_any (is_asker_at l.decls l.asked l.apart l.shelf) (drop l.slot-index l.slots)
-    ≡ list_any (is_asker_at l.decls l.asked l.apart l.shelf) l.slots
+invariant-loop-slot g l = list_any (λ s. is_asker l.decls l.asked (g.S.Slots.kept l.shelved s)) (drop l.slot-index l.slots)
+    ≡ list_any (λ s. is_asker l.decls l.asked (g.S.Slots.kept l.shelved s)) l.slots

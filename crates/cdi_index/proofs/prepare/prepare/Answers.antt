@@ -66,12 +66,13 @@ returns-clause-next c =
     c.requires.exact c.requires.sound (decls ∙ c.requires.edited.decls) (keys ∙ c.requires.edited.keys) c.in_ok-affected.ensures
     refl c.reserve.ensures.entries c.reserve.ensures.others c.change_affected.ensures.kept _ refl
     c.in_ok-changes.ensures.changes c.in_ok-changes.ensures.listed
-    c.iter.ensures.distinct c.iter.ensures.bound
+    c.iter.ensures.distinct
     (λ s e at. omega (arith, c.requires.free s e at, c.reserve.ensures.given))
     (omega (arith, c.in_ok-reserve.ensures.numbers, many))
     (omega (arith, c.in_ok-reserve.ensures.slots, many))
     (omega (arith, c.in_ok-reserve.ensures.kept, many))
     (ap keys_changed c.in_ok-changes.ensures.changes ∙ keys-made (λ (x : Change). x.key) (change_of c.draft.inside.decls) (λ k. refl) ks)
+    c.len.ensures.unique
     (turned-are c.args.decls.now c.draft.inside.decls ks c.reserve.new.self more c.requires.distinct c.iter.ensures.distinct
     (shelf-same c.args.shelf.now c.reserve.new.self c.reserve.ensures.entries c.reserve.ensures.others c.requires.shelf)
     (exact-same c.args.shelf.now c.reserve.new.self c.reserve.ensures.entries c.reserve.ensures.others c.args.decls.now c.requires.exact)

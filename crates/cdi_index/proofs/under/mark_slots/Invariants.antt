@@ -2,8 +2,8 @@ use Rattle.cdi_index.proofs.Common.{◌≡◌, ℕ, ◌||◌, length, take, limi
 use Rattle.cdi_index.proofs.under.mark_slots.Given as goal
 
 abbrev pub invariant-loop-slot : goal.invariant-loop-slot
-invariant-loop-slot l = record {
+invariant-loop-slot g l = record {
   size : length l.positions ≡ limit;
   marks : (p : ℕ) → is_marked l.positions p
-      ≡ (is_marked l.fn.positions p || is_at_slots l.decls l.shelf l.word (take l.slot-index l.slots) p);
+      ≡ (is_marked l.fn.positions p || is_at_slots l.decls (g.S.Slots.kept l.shelved) l.word (take l.slot-index l.slots) p);
 }

@@ -1,39 +1,63 @@
-use Rattle.cdi_live.proofs.Common.{◌≡◌, false, List, sym, ap, ◌∙◌, list_any, Qual, ◌||◌, option_map_or, ◌++◌, Word, subst, has_one}
-use Rattle.cdi_live.proofs.Common.{slice_get, is_listed, marked_from, is_place_of_one, words_bound}
-use Rattle.cdi_live.proofs.InterceptorLemmas.{cover-first, cover-second, unmarked-seen, without-words, Cover}
+use Rattle.cdi_live.proofs.Common.{◌≡◌, true, false, not, List, sym, ap, ◌∙◌, Qual, in_text_order}
+use Rattle.std.specs.Cmp.Lexicographic.{pointwise}
+use Rattle.cdi_model.specs.SameUse.{same_qual}
+use Rattle.cdi_match.specs.Bindings.{uses_in}
+use Rattle.cdi_seen.specs.Touched.{types_alike}
+use Rattle.cdi_live.specs.ChainCompared.{see_same_interceptors, set_bound}
+use Rattle.cdi_live.proofs.{TouchedChainLemmas.declared-otherwise, TouchedChainLemmas.touched-where-seen, TouchedChainLemmas.written-otherwise}
 use Rattle.cdi_live.proofs.chain_compare.is_touched.Goals as goal
 
-pub seen_at-requires : goal.seen_at-requires
-seen_at-requires c p d at unmarked =
+pub returns-then-not-same_as_written : goal.returns-then-not-same_as_written
+returns-then-not-same_as_written c class bound =
     let ds = c.args.sides.now.index.now.decls in
-    let olds : List Qual = c.as_slice-5.result.now in
-    let news : List Qual = c.as_slice-2.result.now in
-    let words : List Word = c.as_slice-3.result.now in
-    let are : words ≡ words_bound olds ++ words_bound news =
-    c.as_slice-3.ensures.value ∙ c.in_ok-push_bound_words-2.ensures
-    ∙ ap (λ ws. ws ++ words_bound news) (c.in_ok-push_bound_words.ensures
-    ∙ ap (λ ws. ws ++ words_bound c.as_slice.result.now) c.new-words.ensures.items
-    ∙ ap words_bound (c.as_slice.ensures ∙ sym c.as_slice-5.ensures)) in
-    without-words ds words olds c.args.place.now d (subst (λ ws. Cover ws olds) (sym are) (cover-first olds news))
-    (sym (ap (λ o. option_map_or (has_one ds words) o false) (ap (λ l. slice_get l p) (sym c.decls-3.ensures.value) ∙ at))
-    ∙ sym (c.positions_under-before.ensures p) ∙ unmarked)
+    let es = c.args.sides.now.next.now in
+    let place = c.args.place.now in
+    let both = c.args.both in
+    let us : List Qual = uses_in c.in_ok-olds.olds.items in
+    let vs : List Qual = uses_in c.in_ok-news.news.items in
+    let other : pointwise same_qual us vs ≡ false =
+    ap (λ xs. pointwise same_qual (uses_in xs) vs) (sym c.deref.ensures.value)
+    ∙ ap (λ xs. pointwise same_qual (uses_in c.deref.result.now) (uses_in xs)) (sym c.deref-2.ensures.value)
+    ∙ sym c.same_as_written.ensures ∙ c.if-not-same_as_written.true in
+    written-otherwise ds es class both bound place us vs
+    (c.in_ok-olds.ensures ∙ ap (λ l. in_text_order (set_bound l both.before place)) c.decls.ensures.value)
+    (c.in_ok-news.ensures ∙ ap (λ l. in_text_order (set_bound l both.after place)) c.decls-2.ensures.value) other
 
-pub seen_at-requires-2 : goal.seen_at-requires-2
-seen_at-requires-2 c p d at unmarked =
-    let sides = c.args.sides.now in
-    let olds : List Qual = c.as_slice.result.now in
-    let news : List Qual = c.as_slice-6.result.now in
-    let words : List Word = c.as_slice-3.result.now in
-    let are : words ≡ words_bound olds ++ words_bound news =
-    c.as_slice-3.ensures.value ∙ c.in_ok-push_bound_words-2.ensures
-    ∙ ap (λ ws. ws ++ words_bound c.as_slice-2.result.now) (c.in_ok-push_bound_words.ensures
-    ∙ ap (λ ws. ws ++ words_bound olds) c.new-words.ensures.items)
-    ∙ ap (λ us. words_bound olds ++ words_bound us) (c.as_slice-2.ensures ∙ sym c.as_slice-6.ensures) in
-    unmarked-seen sides c.requires c.requires.distinct
-    c.requires.apart words c.positions_under-before.result c.positions_under-before.ensures
-    news c.args.place.now (subst (λ ws. Cover ws news) (sym are) (cover-second olds news)) p d
-    (ap (λ l. slice_get l p) (sym c.decls-4.ensures.value) ∙ at)
-    (sym (c.positions_after-after.ensures p
-    ∙ ap (λ ws. list_any (λ q. is_place_of_one sides.index.now.decls sides.next.now q p) (marked_from 0 c.positions_under-before.result)
-    || list_any (λ w. is_listed sides.changed.now w p) ws) (c.as_slice-4.ensures.value ∙ sym c.as_slice-3.ensures.value))
-    ∙ unmarked)
+pub returns-then-not-same_types : goal.returns-then-not-same_types
+returns-then-not-same_types c class bound =
+    let ds = c.args.sides.now.index.now.decls in
+    let es = c.args.sides.now.next.now in
+    let place = c.args.place.now in
+    let both = c.args.both in
+    let us : List Qual = uses_in c.in_ok-olds.olds.items in
+    let vs : List Qual = uses_in c.in_ok-news.news.items in
+    let other : types_alike ds us es vs ≡ false =
+    ap (λ l. types_alike l us es vs) (sym c.decls-3.ensures.value) ∙ ap (λ l. types_alike c.decls-3.result.now us l vs) (sym c.decls-4.ensures.value)
+    ∙ ap (λ xs. types_alike c.decls-3.result.now (uses_in xs) c.decls-4.result.now vs) (sym c.deref-3.ensures.value)
+    ∙ ap (λ xs. types_alike c.decls-3.result.now (uses_in c.deref-3.result.now) c.decls-4.result.now (uses_in xs)) (sym c.deref-4.ensures.value)
+    ∙ sym c.same_types.ensures ∙ c.if-not-same_types.true in
+    declared-otherwise ds es class both bound place us vs
+    (c.in_ok-olds.ensures ∙ ap (λ l. in_text_order (set_bound l both.before place)) c.decls.ensures.value)
+    (c.in_ok-news.ensures ∙ ap (λ l. in_text_order (set_bound l both.after place)) c.decls-2.ensures.value) other
+
+pub returns : goal.returns
+returns c class bound =
+    let ds = c.args.sides.now.index.now.decls in
+    let es = c.args.sides.now.next.now in
+    let place = c.args.place.now in
+    let both = c.args.both in
+    let us : List Qual = uses_in c.in_ok-olds.olds.items in
+    let vs : List Qual = uses_in c.in_ok-news.news.items in
+    let written : pointwise same_qual us vs ≡ true =
+    ap (λ xs. pointwise same_qual (uses_in xs) vs) (sym c.deref.ensures.value)
+    ∙ ap (λ xs. pointwise same_qual (uses_in c.deref.result.now) (uses_in xs)) (sym c.deref-2.ensures.value)
+    ∙ sym c.same_as_written.ensures ∙ c.if-not-same_as_written.false in
+    let declared : types_alike ds us es vs ≡ true =
+    ap (λ l. types_alike l us es vs) (sym c.decls-3.ensures.value) ∙ ap (λ l. types_alike c.decls-3.result.now us l vs) (sym c.decls-4.ensures.value)
+    ∙ ap (λ xs. types_alike c.decls-3.result.now (uses_in xs) c.decls-4.result.now vs) (sym c.deref-3.ensures.value)
+    ∙ ap (λ xs. types_alike c.decls-3.result.now (uses_in c.deref-3.result.now) c.decls-4.result.now (uses_in xs)) (sym c.deref-4.ensures.value)
+    ∙ sym c.same_types.ensures ∙ c.if-not-same_types.false in
+    ap not (c.in_ok-is_same.ensures ∙ ap (λ xs. see_same_interceptors ds es (uses_in xs) place) c.deref-5.ensures.value)
+    ∙ touched-where-seen ds es class both bound place us vs
+    (c.in_ok-olds.ensures ∙ ap (λ l. in_text_order (set_bound l both.before place)) c.decls.ensures.value)
+    (c.in_ok-news.ensures ∙ ap (λ l. in_text_order (set_bound l both.after place)) c.decls-2.ensures.value) written declared

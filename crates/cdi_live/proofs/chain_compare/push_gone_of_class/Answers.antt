@@ -1,7 +1,19 @@
-use Rattle.cdi_live.proofs.Common.{Bool, ◌&&◌, sym, ap, ◌∙◌, list_any, bytes_eq, BeanPlace, ◌||◌, parts_under, same_place, goes, arith}
+use Rattle.cdi_live.proofs.Common.{◌≡◌, Bool, ◌&&◌, [], sym, ap, ◌∙◌, list_any, bytes_eq, BeanPlace, ◌||◌, parts_under, same_place, goes, arith}
 use Rattle.cdi_live.proofs.Common.{is_gone_chain, take}
-use Rattle.cdi_live.proofs.PartLemmas.{any-next, regroup, take-whole, within}
+use Rattle.cdi_live.proofs.PartLemmas.{any-next, none-copied, nothing-more, regroup, take-whole, within}
 use Rattle.cdi_live.proofs.chain_compare.push_gone_of_class.Goals as goal
+
+pub returns-then-is_none : goal.returns-then-is_none
+returns-then-is_none c k p =
+    let ds = c.args.sides.now.index.now.decls in
+    let es = c.args.sides.now.next.now in
+    let class = c.args.class.now in
+    let parts = parts_under c.args.chains.now class in
+    let none : [] ≡ parts =
+    take-whole parts 0 (sym c.part_at.ensures.part ∙ none-copied c.part_at.result c.if-is_none.ensures) in
+    nothing-more (is_gone_chain c.args.gone.now.items k p) (bytes_eq k class)
+    ∙ ap (λ qs. is_gone_chain c.args.gone.now.items k p || (bytes_eq k class && list_any (λ q. same_place p q && goes ds es class q) qs))
+    none
 
 pub overflow_add-index : goal.overflow_add-index
 overflow_add-index c = omega (

@@ -1,7 +1,7 @@
 use Rattle.cdi_live.proofs.Common.{◌≡◌, List, map, filter, ap, ◌∙◌, ℕ, flat_map, AreDistinct, Effective, beans, entries, types_of}
 use Rattle.cdi_live.proofs.Common.{sorted_by, observes_one, observers, observes, observing, IfOk-weaker}
 use Rattle.cdi_observe.specs.{Observers.is_before, Lent.lent_in}
-use Rattle.cdi_live.proofs.EventCompareLemmas.{seen-before}
+use Rattle.cdi_live.proofs.EventCompareLemmas.{seen-of-types}
 use Rattle.cdi_live.proofs.event_compare.observing_before.Goals as goal
 
 pub returns : goal.returns
@@ -16,5 +16,5 @@ returns c =
     (λ list. lent_in list.items ≡ sorted_by is_before (filter (observes types) (observers c.decls.result.now candidates)))
     (λ list. (t : List ℕ) → types ≡ types_of ds t → lent_in list.items ≡ observing ds (beans ds) t)
     (λ list is t of. is ∙ ap (λ es. sorted_by is_before (filter (observes types) (observers es candidates))) c.decls.ensures.value
-    ∙ ap (λ xs. sorted_by is_before (filter (observes types) (observers ds xs))) are ∙ seen-before ds types distinct t of)
+    ∙ ap (λ xs. sorted_by is_before (filter (observes types) (observers ds xs))) are ∙ seen-of-types ds types distinct t of)
     c.observers_in_order.ensures

@@ -1,4 +1,5 @@
 use Rattle.cdi_live.proofs.Common.{◌≡◌, filter, ap, ◌∙◌, in_order, is_seen, sorted_by, IfOk-weaker}
+use Rattle.cdi_match.specs.Bindings.{uses_in}
 use Rattle.cdi_intercept.specs.{Lent.lent_in, Chains.is_before}
 use Rattle.cdi_live.proofs.InterceptorLemmas.{seen-gathered}
 use Rattle.cdi_live.proofs.interceptors.seen_at.Goals as goal
@@ -6,7 +7,7 @@ use Rattle.cdi_live.proofs.interceptors.seen_at.Goals as goal
 pub returns : goal.returns
 returns c =
     let ds = c.args.decls.now in
-    let us = c.args.bindings.now in
+    let us = uses_in c.args.bindings.now in
     let place = c.args.place.now in
     let marks = c.args.positions.now in
     IfOk-weaker c.seen_around.result
