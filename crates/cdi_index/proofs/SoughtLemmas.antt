@@ -1,18 +1,19 @@
 -- The beans that are sought are among those of the declarations that have the words.
-use Rattle.cdi_index.proofs.Common.{◌≡◌, ℕ, Bool, true, false, ◌||◌, List, [], ◌∷◌, map, Option, Some, None, refl, sym, ap, ◌∙◌, list_any}
+use Rattle.cdi_index.proofs.Common.{◌≡◌, ℕ, Bool, true, false, ◌&&◌, ◌||◌, List, [], ◌∷◌, map, Option, Some, None, refl, sym, ap, ◌∙◌, list_any}
 use Rattle.cdi_index.proofs.Common.{name_of_use, or_parts, BeanDecl, Decl, Qual, own_records, Effective, ◌++◌, flat_map, option_to_list, bytes_eq}
 use Rattle.cdi_index.proofs.Common.{list_any-append, Mention, BodyOf, CallOf, EventOf, MethodOf, PointOf, StereotypeOf, TypeIn, UseOf}
 use Rattle.cdi_index.proofs.Common.{required, Word, same_word, word_at, words_have, words_named, words_named_in, bytes_eq-turned}
 use Rattle.cdi_index.proofs.Common.{words_of_observer, words_of_record, words_of_uses, suc, cond, filter, slice_get, words_written_in, has}
 use Rattle.cdi_index.proofs.Common.{unless_replaced, records_are_own, entries, beans_under, has_one, beans, has_name, observes_one}
 use Rattle.cdi_index.proofs.Common.{or-false, any-same, any-or, arith}
+use Rattle.std.specs.Prelude.{if◌then◌else◌}
 use Rattle.std.proofs.lemmas.List.Elements.{filter-append}
 use Rattle.base_lists.proofs.{Any.any-none, Filters.filter-each, Filters.filter-same}
 use Rattle.cdi_model.specs.declared.decl.ObserverDecl.{ObserverDecl}
 use Rattle.cdi_model.specs.declared.decl.Decl.TheVariants as decls
 use Rattle.cdi_model.specs.declared.decl.UseKind.TheVariants as uses
 use Rattle.cdi_postings.specs.declared.word.Reason.TheVariants as reasons
-use Rattle.cdi_index.specs.Made.{words_of_bean, words_of_bindings, words_of_interceptor}
+use Rattle.cdi_index.specs.Made.{serves_as_alternative, words_as_alternative, words_of_bean, words_of_bindings, words_of_interceptor}
 
 -- ---- where others give nothing that is sought
 
@@ -37,6 +38,21 @@ pub types-have : (types : List (List ℕ)) (t : List ℕ)
     → words_have (map (word_at reasons.HasType) types) (word_at reasons.HasType t) ≡ has types t
 types-have [] t = refl
 types-have (s ∷ types) t = ap (λ b. bytes_eq s t || b) (types-have types t)
+
+types-served : (types : List (List ℕ)) (t : List ℕ)
+    → words_have (map (word_at reasons.HasTypeAsAlternative) types) (word_at reasons.HasTypeAsAlternative t) ≡ has types t
+types-served [] t = refl
+types-served (s ∷ types) t = ap (λ b. bytes_eq s t || b) (types-served types t)
+
+alternative-has : (t : List ℕ) (x : Effective)
+    → words_have (words_as_alternative x) (word_at reasons.HasTypeAsAlternative t) ≡ (serves_as_alternative x && has x.types t)
+alternative-has t x = by (serves_as_alternative x)
+  where
+    by : (b : Bool)
+        → words_have (if b then map (word_at reasons.HasTypeAsAlternative) x.types else []) (word_at reasons.HasTypeAsAlternative t)
+        ≡ (b && has x.types t)
+    by true = types-served x.types t
+    by false = refl
 
 name-has : (o : Option (List ℕ)) (name : List ℕ) (x : Effective) → x.name ≡ o
     → words_have (map (word_at reasons.HasName) (option_to_list x.name)) (word_at reasons.HasName name) ≡ has_name name x
@@ -77,6 +93,12 @@ no-type : (t : List ℕ) (r : Bool) (x : Effective) → words_have (words_of_rec
     → has (unless_replaced r x).types t ≡ false
 no-type t r x none = grind (arith, x.types, x.name, x.qualifiers, x.bindings, words-append, types-have)
 
+no-alternative : (t : List ℕ) (r : Bool) (x : Effective)
+    → words_have (words_of_record x) (word_at reasons.HasTypeAsAlternative t) ≡ false
+    → (serves_as_alternative (unless_replaced r x) && has (unless_replaced r x).types t) ≡ false
+no-alternative t r x none =
+    grind (arith, x.types, x.name, x.qualifiers, x.bindings, words_as_alternative x, words-append, alternative-has)
+
 no-name : (n : List ℕ) (r : Bool) (x : Effective) → words_have (words_of_record x) (word_at reasons.HasName n) ≡ false
     → has_name n (unless_replaced r x) ≡ false
 no-name n r x none = grind (arith, x.types, x.name, x.qualifiers, x.bindings, words-append, name-has)
@@ -90,6 +112,15 @@ pub of-type : (ds : List Decl) (t : List ℕ)
     → filter (λ b. has b.types t) (beans_under ds (word_at reasons.HasType t ∷ [])) ≡ filter (λ b. has b.types t) (beans ds)
 unfolding beans
 of-type ds t = grind (arith, filter-under, none-of-type)
+
+pub of-alternatives : (ds : List Decl) (t : List ℕ)
+    → filter (λ b. serves_as_alternative b && has b.types t) (beans_under ds (word_at reasons.HasTypeAsAlternative t ∷ []))
+    ≡ filter (λ b. serves_as_alternative b && has b.types t) (beans ds)
+unfolding beans
+of-alternatives ds t =
+    let w : Word = word_at reasons.HasTypeAsAlternative t in
+    let q : Effective → Bool = λ b. serves_as_alternative b && has b.types t in
+    filter-under (entries ds) (has_one ds (w ∷ [])) q ds (λ i d there. none-given w q (no-alternative t) ds d)
 
 pub of-name : (ds : List Decl) (n : List ℕ)
     → filter (has_name n) (beans_under ds (word_at reasons.HasName n ∷ [])) ≡ filter (has_name n) (beans ds)
@@ -118,10 +149,21 @@ none-bound : (us : List Qual) (t : List ℕ) → words_have (words_of_bindings u
 none-bound [] t = refl
 none-bound (u ∷ us) t = none-bound us t
 
+none-as-alternative : (x : Effective) (t : List ℕ) → words_have (words_as_alternative x) (word_at reasons.Observes t) ≡ false
+none-as-alternative x t = by (serves_as_alternative x)
+  where
+    unlike : (types : List (List ℕ)) → words_have (map (word_at reasons.HasTypeAsAlternative) types) (word_at reasons.Observes t) ≡ false
+    unlike [] = refl
+    unlike (s ∷ types) = unlike types
+
+    by : (b : Bool) → words_have (if b then map (word_at reasons.HasTypeAsAlternative) x.types else []) (word_at reasons.Observes t) ≡ false
+    by true = unlike x.types
+    by false = refl
+
 none-of-records : (own : List Effective) (t : List ℕ) → words_have (flat_map words_of_record own) (word_at reasons.Observes t) ≡ false
 none-of-records [] t = refl
 none-of-records (x ∷ own) t =
-    grind (arith, none-of-records own t, words-append, none-typed, none-named, none-used, none-bound)
+    grind (arith, none-of-records own t, words-append, none-typed, none-named, none-used, none-bound, none-as-alternative)
 
 -- what a declaration names has no word of what observer methods observe
 none-in : (m : Mention) (t : List ℕ) → words_have (words_named_in m) (word_at reasons.Observes t) ≡ false

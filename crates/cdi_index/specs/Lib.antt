@@ -9,3 +9,4 @@ pub mod Told
 pub mod Asked
 pub mod AskedAt
 pub mod Under
+pub mod Candidates

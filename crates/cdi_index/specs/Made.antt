@@ -1,5 +1,5 @@
 -- What is made of declarations, what it reads, and under which words a declaration is listed for it.
-use Rattle.std.specs.Prelude.{◌≡◌, ◌||◌, ℕ, Bool, true, false, List, [], ◌∷◌, ◌++◌, map, Option, Some, None, option_map}
+use Rattle.std.specs.Prelude.{◌≡◌, ◌&&◌, ◌||◌, ℕ, Bool, true, false, if◌then◌else◌, List, [], ◌∷◌, ◌++◌, map, Option, Some, None, option_map}
 use Rattle.std.specs.List.{flat_map, list_any}
 use Rattle.std.specs.Option.{option_to_list}
 use Rattle.std.specs.declared.alloc.Global.{Global}
@@ -53,10 +53,19 @@ words_of_uses us = map (λ u. word_at reasons.Qualifies (name_of_use u)) us
 abbrev pub words_of_bindings : List Qual → List Word
 words_of_bindings us = map (λ u. word_at reasons.Binds (name_of_use u)) us
 
--- the words of a record: its types, its name, its qualifiers and the bindings of its class
+-- it is an enabled alternative, or an enabled product of one
+abbrev pub serves_as_alternative : Effective → Bool
+serves_as_alternative r = r.is_enabled && (r.is_alternative || r.is_of_alternative)
+
+-- the words of its types, if it is
+abbrev pub words_as_alternative : Effective → List Word
+words_as_alternative r = if serves_as_alternative r then map (word_at reasons.HasTypeAsAlternative) r.types else []
+
+-- the words of a record: its types, its name, its qualifiers, the bindings of its class, and its types as an alternative
 abbrev pub words_of_record : Effective → List Word
 words_of_record r = map (word_at reasons.HasType) r.types
-    ++ (map (word_at reasons.HasName) (option_to_list r.name) ++ (words_of_uses r.qualifiers ++ words_of_bindings r.bindings))
+    ++ (map (word_at reasons.HasName) (option_to_list r.name) ++ (words_of_uses r.qualifiers
+    ++ (words_of_bindings r.bindings ++ words_as_alternative r)))
 
 -- the words of a point: the type and the qualifiers for which it asks
 abbrev pub words_of_point : PointDecl → List Word

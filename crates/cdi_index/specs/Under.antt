@@ -1,5 +1,5 @@
 -- Which declarations are under words, and the beans that are found by these.
-use Rattle.std.specs.Prelude.{ℕ, nat_eq, Bool, true, false, List, [], ◌∷◌, flat_map, filter, Option, Some, None, if◌then◌else◌, position, slice_get}
+use Rattle.std.specs.Prelude.{ℕ, nat_eq, ◌&&◌, Bool, true, false, List, [], ◌∷◌, flat_map, filter, Option, Some, None, if◌then◌else◌, position, slice_get}
 use Rattle.std.specs.List.{list_any}
 use Rattle.std.specs.Option.{option_map_or}
 use Rattle.std.specs.Str.{bytes_eq}
@@ -20,7 +20,7 @@ use Rattle.cdi_index.specs.declared.shelf.Kept.{Kept}
 use Rattle.cdi_index.specs.declared.shelf.Shelf.{Shelf}
 use Rattle.cdi_index.specs.declared.under.Sought.{Sought}
 use Rattle.cdi_index.specs.declared.under.Sought.TheVariants as sought
-use Rattle.cdi_index.specs.Made.{words_have, words_of_bean, words_of_interceptor}
+use Rattle.cdi_index.specs.Made.{serves_as_alternative, words_have, words_of_bean, words_of_interceptor}
 use Rattle.cdi_index.specs.Replaced.{lent}
 
 -- ---- what is found
@@ -32,6 +32,7 @@ has_name name bean = option_map_or (λ n. bytes_eq n name) bean.name false
 -- the bean is sought
 abbrev pub is_sought : Sought → Effective → Bool
 is_sought (sought.OfType t) bean = has bean.types t.now
+is_sought (sought.AlternativesOf t) bean = serves_as_alternative bean && has bean.types t.now
 is_sought (sought.OfName name) bean = has_name name.now bean
 is_sought sought.Each bean = true
 

@@ -1,5 +1,5 @@
 //! The declarations, with what is made of each.
-ghost use Rattle.std.specs.Prelude.{◌≡◌, false, filter, flat_map, map, slice_get, option_map, Some, None, IfOk, IfSome, OnOk, OnErr};
+ghost use Rattle.std.specs.Prelude.{◌≡◌, ◌&&◌, false, filter, flat_map, map, slice_get, option_map, Some, None, IfOk, IfSome, OnOk, OnErr};
 ghost use Rattle.std.specs.Option.{option_copied, option_map_or};
 ghost use Rattle.cdi_positions.specs.Marks.{is_marked};
 ghost use Rattle.cdi_match.specs.Chain.{has};
@@ -7,10 +7,11 @@ ghost use Rattle.cdi_effective.specs.Beans.{beans, entries};
 ghost use Rattle.cdi_effective.specs.Records.{records_in};
 ghost use Rattle.cdi_model.specs.DeclList.{AreDistinct};
 ghost use Rattle.cdi_model.specs.Edits.{is_among};
-ghost use Rattle.cdi_index.specs.Made.{made_of, reads, types_declared};
+ghost use Rattle.cdi_index.specs.Made.{made_of, reads, serves_as_alternative, types_declared};
 ghost use Rattle.cdi_index.specs.Replaced.{lent};
 ghost use Rattle.cdi_index.specs.State.{committed, drafted_from, empty, staged_by, with_staged, IsEdited};
 ghost use Rattle.cdi_index.specs.Asked.{is_asked};
+ghost use Rattle.cdi_index.specs.Candidates.{AreFirst};
 ghost use Rattle.cdi_index.specs.Told.{Tells};
 ghost use Rattle.cdi_index.specs.Under.{beans_under, bindings_in, first_bindings, has_name, has_one, is_sought, observes_one, records_at};
 
@@ -34,6 +35,15 @@ use cdi_positions::PositionSet;
 use cdi_postings::{Postings, Reason, Word};
 use std::alloc::{AllocError, Global};
 use std::marker::Model;
+
+/// The beans of a type among which a choice is made first, in order.
+#[derive(Drop)]
+pub enum Candidates<'a> {
+    /// All of them.
+    All(Vec<&'a Effective>),
+    /// The enabled alternatives, and the enabled products of alternatives.
+    Alternatives(Vec<&'a Effective>),
+}
 
 /// The declarations, with what is made of each, and at most one draft that is staged.
 pub struct Index {
@@ -181,6 +191,24 @@ impl Index {
         readers_of(alloc, &self.shelf, &self.postings, key)
     }
 
+    /// Those of the beans of the only declaration that is listed under some words which are sought, in order. None where no
+    /// declaration or several are listed.
+    fn sought_in_one(
+        &self,
+        alloc: Global,
+        words: &[Word],
+        sought: Sought<'_>,
+    ) -> Result<Option<Vec<&Effective>>, AllocError>
+        ensures { IfOk result (λ found. IfSome found (λ list. map (λ bean. bean.now) list.items
+            ≡ filter (is_sought sought.entry) (beans_under self.now.decls words.now))) }
+    {
+        let Some((word, slot)) = only_slot(&self.postings, words) else {
+            return Ok(None);
+        };
+        let list = sought_at_slot(alloc, &self.shelf, sought, &word, slot)?;
+        Ok(Some(list))
+    }
+
     /// Those of the beans of the declarations that have one of some words which are sought, in order.
     fn sought_under(
         &self,
@@ -191,8 +219,8 @@ impl Index {
         ensures { IfOk result (λ list. map (λ bean. bean.now) list.items
             ≡ filter (is_sought sought.entry) (beans_under self.now.decls words.now)) }
     {
-        if let Some((word, slot)) = only_slot(&self.postings, words) {
-            return sought_at_slot(alloc, &self.shelf, sought, &word, slot);
+        if let Some(list) = self.sought_in_one(alloc, words, sought)? {
+            return Ok(list);
         }
         let positions = positions_under(&self.decls, &self.shelf, &self.postings, words);
         sought_at_positions(alloc, self, sought, &positions)
@@ -213,6 +241,41 @@ impl Index {
             name: *bean_type,
         };
         self.sought_under(alloc, &[word], Sought::OfType(bean_type))
+    }
+
+    /// The beans of a type among which a choice is made first. It takes memory and time as `beans_of_type` does, and looks at
+    /// the alternatives alone where several declarations have beans of the type.
+    pub fn first_candidates(
+        &self,
+        alloc: Global,
+        bean_type: &Name,
+    ) -> Result<Candidates<'_>, AllocError>
+        ensures { IfOk result (AreFirst self.now.decls bean_type.now) }
+    {
+        let word = Word {
+            reason: Reason::HasType,
+            name: *bean_type,
+        };
+        match self.sought_in_one(alloc, &[word], Sought::OfType(bean_type))? {
+            Some(beans) => Ok(Candidates::All(beans)),
+            None => Ok(Candidates::Alternatives(self.alternatives_of_type(alloc, bean_type)?)),
+        }
+    }
+
+    /// The enabled alternatives that have a type, and the enabled products of alternatives that do, in order.
+    fn alternatives_of_type(
+        &self,
+        alloc: Global,
+        bean_type: &Name,
+    ) -> Result<Vec<&Effective>, AllocError>
+        ensures { IfOk result (λ list. map (λ bean. bean.now) list.items
+            ≡ filter (λ bean. serves_as_alternative bean && has bean.types bean_type.now) (beans self.now.decls)) }
+    {
+        let word = Word {
+            reason: Reason::HasTypeAsAlternative,
+            name: *bean_type,
+        };
+        self.sought_under(alloc, &[word], Sought::AlternativesOf(bean_type))
     }
 
     /// The beans that have a name, enabled or not, in order. It takes memory and time as `beans_of_type` does.

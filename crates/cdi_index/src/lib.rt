@@ -19,5 +19,5 @@ mod under;
 pub use asked::{Asked, Question};
 pub use counts::Counts;
 pub use draft::Draft;
-pub use index::Index;
+pub use index::{Candidates, Index};
 pub use next_index::NextIndex;

@@ -13,7 +13,7 @@ ghost use Rattle.cdi_match.specs.Filling.{as_binding};
 ghost use Rattle.cdi_match.specs.Locality.{binding_reads};
 ghost use Rattle.cdi_index.specs.Made.{intercepted_reads, made_of, made_of_bean, made_of_binding, made_of_interceptor, made_of_type};
 ghost use Rattle.cdi_index.specs.Made.{words_named, words_named_in, words_of, words_of_event, words_of_observer, words_of_point, words_of_record};
-ghost use Rattle.cdi_index.specs.Made.{words_intercepting, words_written_in};
+ghost use Rattle.cdi_index.specs.Made.{serves_as_alternative, words_as_alternative, words_intercepting, words_of_bindings, words_written_in};
 
 use crate::next_types::NextTypes;
 use cdi_effective::{
@@ -98,19 +98,45 @@ fn make_types(alloc: Global, types: &NextTypes<'_>, name: &Name) -> Result<Made,
     })
 }
 
+/// Whether a bean is an enabled alternative, or an enabled product of one.
+pub(crate) fn serves_as_alternative(bean: &Effective) -> bool
+    ensures { result ≡ serves_as_alternative bean.now }
+{
+    bean.is_enabled && (bean.is_alternative || bean.is_of_alternative)
+}
+
 /// Appends the words of a record.
 fn push_record_words(record: &Effective, words: &mut Vec<Word>) -> Result<(), AllocError>
     ensures { OnOk result (words.new.items ≡ words.old.items ++ words_of_record record.now) }
 {
     push_words(Reason::HasType, record.types.as_slice(), words)?;
-    if let Some(name) = record.name {
+    push_name_word(record.name, words)?;
+    push_use_words(Reason::Qualifies, record.qualifiers.as_slice(), words)?;
+    push_words_of_class(record, words)?;
+    Ok(())
+}
+
+/// Appends the word of the name of a record, if it has one.
+fn push_name_word(name: Option<Name>, words: &mut Vec<Word>) -> Result<(), AllocError>
+    ensures { OnOk result (words.new.items ≡ words.old.items ++ map (word_at reasons.HasName) (option_to_list name)) }
+{
+    if let Some(name) = name {
         words.push(Word {
             reason: Reason::HasName,
             name,
         })?;
     }
-    push_use_words(Reason::Qualifies, record.qualifiers.as_slice(), words)?;
+    Ok(())
+}
+
+/// Appends the words of the bindings of its class, and those of its types as an alternative.
+fn push_words_of_class(record: &Effective, words: &mut Vec<Word>) -> Result<(), AllocError>
+    ensures { OnOk result (words.new.items ≡ words.old.items ++ (words_of_bindings record.now.bindings ++ words_as_alternative record.now)) }
+{
     push_use_words(Reason::Binds, record.bindings.as_slice(), words)?;
+    if serves_as_alternative(record) {
+        push_words(Reason::HasTypeAsAlternative, record.types.as_slice(), words)?;
+    }
     Ok(())
 }
 

@@ -15,7 +15,7 @@ ghost use Rattle.cdi_postings.specs.declared.word.Reason.TheVariants as reasons;
 ghost use Rattle.cdi_index.specs.Under.{has_name, is_sought, is_at_slots, is_at_words, position_under, records_at, records_kept};
 
 use crate::index::own_records;
-use crate::making::Made;
+use crate::making::{Made, serves_as_alternative};
 use crate::shelf::{Entry, Kept, Shelf, Slots};
 use cdi_effective::Effective;
 use cdi_model::{Decls, Name};
@@ -83,6 +83,8 @@ pub(crate) fn positions_under<S: Slots>(
 pub(crate) enum Sought<'a> {
     /// Those of a type.
     OfType(&'a Name),
+    /// The enabled alternatives of a type, and the enabled products of such.
+    AlternativesOf(&'a Name),
     /// Those of a name.
     OfName(&'a Name),
     /// All.
@@ -95,6 +97,8 @@ fn is_sought(sought: Sought<'_>, bean: &Effective) -> bool
 {
     match sought {
         Sought::OfType(bean_type) => bean.has_type(bean_type),
+        Sought::AlternativesOf(bean_type) => serves_as_alternative(bean)
+            && bean.has_type(bean_type),
         Sought::OfName(name) => has_name(bean, name),
         Sought::Each => true,
     }

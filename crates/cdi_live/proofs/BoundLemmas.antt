@@ -4,7 +4,7 @@ use Rattle.cdi_live.proofs.Common.{bytes_eq, false≢true, or_cases, or_left, or
 use Rattle.cdi_live.proofs.Common.{Some, None, list_any-append, mentions, Mention, EventOf, PointOf, TypeIn, ◌++◌, unwrap_or, option_map}
 use Rattle.cdi_live.proofs.Common.{option_to_list, BeanDecl, ObserverDecl, of_bindings, of_parts, of_point, name_of_use, has, own_records}
 use Rattle.cdi_live.proofs.Common.{class_bindings, Effective, Word, same_word, word_at, words_have, words_named, words_named_in}
-use Rattle.cdi_live.proofs.Common.{words_of_bindings, words_of_observer, words_of_record, words_of_uses, words_by, among-named}
+use Rattle.cdi_live.proofs.Common.{words_as_alternative, words_of_bindings, words_of_observer, words_of_record, words_of_uses, words_by, among-named}
 use Rattle.cdi_live.proofs.Common.{own_bindings, words-append, arith}
 use Rattle.std.specs.List.{find}
 use Rattle.cdi_model.specs.Mentions.{BodyOf, CallOf, MethodOf, StereotypeOf, UseOf, of_attributes, of_disposer, of_method, of_observer}
@@ -165,10 +165,13 @@ module _ (n : List ℕ) where
         let names : List Word = map (word_at reasons.HasName) (option_to_list r.name) in
         let quals : List Word = words_of_uses r.qualifiers in
         let bindings : List Word = words_of_bindings r.bindings in
-        any-left (λ v. same_word v (word n)) (types ++ (names ++ (quals ++ bindings))) rest
-        (any-right (λ v. same_word v (word n)) types (names ++ (quals ++ bindings))
-        (any-right (λ v. same_word v (word n)) names (quals ++ bindings)
-        (any-right (λ v. same_word v (word n)) quals bindings (bound-has r.bindings ∙ h))))
+        let served : List Word = words_as_alternative r in
+        let bound : List Word = bindings ++ served in
+        any-left (λ v. same_word v (word n)) (types ++ (names ++ (quals ++ bound))) rest
+        (any-right (λ v. same_word v (word n)) types (names ++ (quals ++ bound))
+        (any-right (λ v. same_word v (word n)) names (quals ++ bound)
+        (any-right (λ v. same_word v (word n)) quals bound
+        (any-left (λ v. same_word v (word n)) bindings served (bound-has r.bindings ∙ h)))))
 
     class-in-records : (ds : List Decl) → has (map name_of_use (class_bindings ds b)) n ≡ true
         → words_have (flat_map words_of_record (own_records ds b)) (word n) ≡ true

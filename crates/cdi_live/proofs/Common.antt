@@ -32,7 +32,7 @@ pub use Rattle.cdi_memo.specs.Answers.{parts_under, Answers, answer, Removes}
 pub use Rattle.cdi_memo.proofs.QuestionLemmas.{parts-kept}
 pub use Rattle.cdi_index.specs.{Asked.asks_in, Told.Tells, Made.reads_in}
 unfoldable pub use Rattle.cdi_index.specs.Asked.{asks_for}
-pub use Rattle.cdi_index.specs.Made.{words_have, words_named, words_named_in, words_of_bindings, words_of_observer, words_of_record}
+pub use Rattle.cdi_index.specs.Made.{words_as_alternative, words_have, words_named, words_named_in, words_of_bindings, words_of_observer, words_of_record}
 pub use Rattle.cdi_index.specs.Made.{words_of_uses, made_of, made_of_bean, made_of_binding, made_of_interceptor, reads, made_of_type}
 pub use Rattle.cdi_index.specs.Under.{words_by, has_one, observes_one}
 pub use Rattle.cdi_index.proofs.{NamedLemmas.among-named, SoughtLemmas.words-append, AskedLemmas.words-of-asker}

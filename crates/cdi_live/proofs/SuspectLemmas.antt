@@ -5,7 +5,7 @@ use Rattle.cdi_live.proofs.Common.{flat_map, list_any-append, Edit, DeclKey, key
 use Rattle.cdi_live.proofs.Common.{edited_all, edited_keys, is_among, mentions, Mention, PointOf, TypeIn, edits_keep_decl, key_exact}
 use Rattle.cdi_live.proofs.Common.{asks_for, asks_in, IsPresent, all_present, found_any, witness, ◌++◌, option_to_list, BeanDecl, has}
 use Rattle.cdi_live.proofs.Common.{own_records, Effective, Word, same_word, word_at, words_have, words_named, words_named_in}
-use Rattle.cdi_live.proofs.Common.{words_of_bindings, words_of_observer, words_of_record, words_of_uses, words_by, among-named, Tells}
+use Rattle.cdi_live.proofs.Common.{words_as_alternative, words_of_bindings, words_of_observer, words_of_record, words_of_uses, words_by, among-named, Tells}
 use Rattle.cdi_live.proofs.Common.{or_parts, key_at, Avoid, as_bean, has_one, each_all, holds, entries, same_quals, same_quals-decides}
 use Rattle.cdi_live.proofs.Common.{records, records_declared, records_in, same_word_equiv, words-of-asker, required, are_alike, suspects}
 use Rattle.cdi_live.proofs.Common.{offers, see_same_beans, asked_in, asked_types, concerned, types_of_edited, types_of_key}
@@ -93,7 +93,7 @@ used-by (r ∷ rs) key h =
           let types : List Word = map (word_at reasons.HasType) r.types in
           let names : List Word = map (word_at reasons.HasName) (option_to_list r.name) in
           let quals : List Word = words_of_uses r.qualifiers in
-          let bindings : List Word = words_of_bindings r.bindings in
+          let bindings : List Word = words_of_bindings r.bindings ++ words_as_alternative r in
           let uses : List Word = quals ++ bindings in
           let rest : List Word = flat_map words_of_record rs in
           record {

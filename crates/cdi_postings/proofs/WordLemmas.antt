@@ -14,7 +14,8 @@ writing (suc (suc zero)) = reasons.Writes kinds.Binding
 writing (suc (suc (suc zero))) = reasons.Writes kinds.Stereotype
 writing (suc (suc (suc (suc zero)))) = reasons.Writes kinds.Bean
 writing (suc (suc (suc (suc (suc zero))))) = reasons.Writes kinds.Interceptor
-writing (suc (suc (suc (suc (suc (suc n)))))) = reasons.Intercepts
+writing (suc (suc (suc (suc (suc (suc zero)))))) = reasons.Intercepts
+writing (suc (suc (suc (suc (suc (suc (suc n))))))) = reasons.HasTypeAsAlternative
 
 -- from that of what has a type
 later : ℕ → Reason
@@ -55,6 +56,7 @@ reason_again reasons.Qualifies = refl
 reason_again reasons.Fires = refl
 reason_again reasons.Binds = refl
 reason_again reasons.Intercepts = refl
+reason_again reasons.HasTypeAsAlternative = refl
 reason_again (reasons.Writes kinds.Type) = refl
 reason_again (reasons.Writes kinds.Qualifier) = refl
 reason_again (reasons.Writes kinds.Binding) = refl

@@ -22,6 +22,7 @@ reason_number reasons.Qualifies = 11
 reason_number reasons.Fires = 12
 reason_number reasons.Binds = 13
 reason_number reasons.Intercepts = 20
+reason_number reasons.HasTypeAsAlternative = 21
 reason_number (reasons.Writes kind) = 14 + kind_number kind
 
 -- the words have one reason and one name

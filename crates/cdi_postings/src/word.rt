@@ -12,6 +12,8 @@ pub enum Reason {
     RestsOn(Kind),
     /// A bean of it has the type.
     HasType,
+    /// An enabled alternative of it, or an enabled product of one, has the type.
+    HasTypeAsAlternative,
     /// A bean of it has the name.
     HasName,
     /// It replaces the bean of the class.
@@ -61,6 +63,7 @@ impl Reason {
             Reason::Fires => 12,
             Reason::Binds => 13,
             Reason::Intercepts => 20,
+            Reason::HasTypeAsAlternative => 21,
             Reason::Writes(Kind::Type) => 14,
             Reason::Writes(Kind::Qualifier) => 15,
             Reason::Writes(Kind::Binding) => 16,

@@ -1,1 +1,2 @@
+pub mod AlternativeLemmas
 pub mod CandidateLemmas

@@ -5,8 +5,9 @@ ghost use Rattle.cdi_match.specs.Types.{types_of};
 ghost use Rattle.cdi_effective.specs.Beans.{beans};
 ghost use Rattle.cdi_resolve.specs.Choices.{chosen, chosen_by_name};
 ghost use Rattle.cdi_observe.specs.Observers.{notified};
+ghost use Rattle.cdi_questions.specs.Found.{is_found};
 
-use cdi_index::Index;
+use cdi_index::{Candidates, Index};
 use cdi_match::closure;
 use cdi_model::{Name, Qual, Quals, Seq, Work};
 use cdi_observe::{ObserverId, evaluate_observers};
@@ -14,10 +15,38 @@ use cdi_resolve::{Choice, choose_from};
 use std::alloc::{AllocError, Global};
 
 /// The bean for a type and qualifiers (CDI 4.0, Performing typesafe resolution). It takes memory for a list of the beans
-/// that have the type, and where several eligible ones rank alike. It is counted as one evaluation: `Work` rises where it
+/// that have the type, and where several eligible ones rank alike. Where several declarations have such beans, and an
+/// alternative is eligible, it looks at the alternatives alone. It is counted as one evaluation: `Work` rises where it
 /// answers, and not where memory runs out.
-#[tactic(auto, using(crate::proofs::CandidateLemmas::has_enough))]
 pub fn choose(
+    alloc: Global,
+    index: &Index,
+    bean_type: Name,
+    quals: &Quals,
+    work: &mut Work,
+) -> Result<Choice, AllocError>
+    ensures choice { IfOk result (λ choice. choice ≡ chosen index.now.decls (beans index.now.decls) bean_type quals.now) }
+    ensures work { OnOk result (work.new ≡ with_one work.old) }
+    ensures err { OnErr result (work.new ≡ work.old) }
+{
+    match index.first_candidates(alloc, &bean_type)? {
+        Candidates::All(beans) => {
+            choose_from(alloc, index.decls(), &beans, bean_type, quals, work)
+        }
+        Candidates::Alternatives(beans) => {
+            let mut counted = *work;
+            let choice = choose_from(alloc, index.decls(), &beans, bean_type, quals, &mut counted)?;
+            if is_found(&choice) {
+                *work = counted;
+                return Ok(choice);
+            }
+            choose_among_all(alloc, index, bean_type, quals, work)
+        }
+    }
+}
+
+/// The choice among all beans of the type.
+fn choose_among_all(
     alloc: Global,
     index: &Index,
     bean_type: Name,
@@ -30,6 +59,13 @@ pub fn choose(
 {
     let candidates = index.beans_of_type(alloc, &bean_type)?;
     choose_from(alloc, index.decls(), &candidates, bean_type, quals, work)
+}
+
+/// Whether a choice is one bean, or several.
+fn is_found(choice: &Choice) -> bool
+    ensures { result ≡ is_found choice.now }
+{
+    !matches!(choice, Choice::Unsatisfied)
 }
 
 /// The bean of a name (CDI 4.0, Name resolution). It takes memory for a list of the beans that have the name, and where

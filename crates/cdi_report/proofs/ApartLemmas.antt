@@ -16,7 +16,7 @@ use Rattle.cdi_effective.specs.{Beans.unless_replaced, Specialized.is_replaced}
 use Rattle.cdi_effective.proofs.RecordLemmas.{records_are_own}
 use Rattle.cdi_postings.specs.Words.{same_word_equiv}
 use Rattle.cdi_postings.specs.declared.word.Reason.TheVariants as reasons
-use Rattle.cdi_index.specs.Made.{words_of_bean, words_of_bindings}
+use Rattle.cdi_index.specs.Made.{words_as_alternative, words_of_bean, words_of_bindings}
 use Rattle.cdi_subjects.specs.Rests.{IsAnsweredAlike}
 use Rattle.cdi_report.proofs.BeanLemmas.{bean-alike}
 use Rattle.cdi_report.specs.Spared.{AreBindingsSpared, IsSpecializedSpared}
@@ -111,7 +111,7 @@ module _ (edits : List Edit) (told : List DeclKey) where
       let types = map (word_at reasons.HasType) b.types in
       let name = map (word_at reasons.HasName) (option_to_list b.name) in
       let used = words_of_uses b.qualifiers in
-      let bound = words_of_bindings b.bindings in
+      let bound = words_of_bindings b.bindings ++ words_as_alternative b in
       words-front w used bound (words-back w name (used ++ bound) (words-back w types (name ++ (used ++ bound)) (none q among))))
 
   records-spared : (bs : List Effective) (r : Bool)

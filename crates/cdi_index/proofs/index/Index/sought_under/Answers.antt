@@ -1,27 +1,8 @@
 use Rattle.cdi_index.proofs.Common.{◌≡◌, List, map, sym, ap, ◌∙◌, Effective, flat_map, kept_at, stored, filter, beans_under, records_at}
-use Rattle.cdi_index.proofs.Common.{records_kept, marked_from, IfOk-weaker, State, is_sought}
-use Rattle.cdi_index.proofs.SlotLemmas.{under-one}
+use Rattle.cdi_index.proofs.Common.{marked_from, IfOk-weaker, State, is_sought}
 use Rattle.cdi_index.proofs.KeptAtLemmas.{shelf-at}
 use Rattle.cdi_index.proofs.UnderLemmas.{marked-are, walked}
 use Rattle.cdi_index.proofs.index.Index.sought_under.Goals as goal
-
-pub returns-in-Some : goal.returns-in-Some
-returns-in-Some c =
-    let ds = c.self.inside.decls in
-    let shelf = c.self.inside.shelf in
-    let words = c.args.words.now in
-    let it = c.self.invariant in
-    let w = c.in-Some.word in
-    let s = c.in-Some.slot in
-    let found : List Effective → List Effective = filter (is_sought c.args.sought) in
-    IfOk-weaker c.sought_at_slot.result
-    (λ list. map (λ bean. bean.now) list.items ≡ found (records_kept shelf w (kept_at shelf s)))
-    (λ list. map (λ bean. bean.now) list.items ≡ found (beans_under c.args.self.now.decls words))
-    (λ list are. are
-    ∙ ap found (under-one ds shelf c.self.inside.postings it.shelved it.exact it.sound c.self.invariant.distinct it.replaced words w s
-    c.in-Some.ensures)
-    ∙ ap (λ (s : State). found (beans_under s.decls words)) c.self.view_is)
-    c.sought_at_slot.ensures
 
 pub returns : goal.returns
 returns c =
