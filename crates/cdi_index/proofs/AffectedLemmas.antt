@@ -39,9 +39,6 @@ hit-parts ds keys k =
 avoids : (edits : List Edit) (made : Option Made) → list_any (reads made) (edited_keys edits) ≡ false → Avoid (reads_in made) edits
 avoids edits made none key among = none-of (reads made) (edited_keys edits) key none among
 
-abbrev made_with : List (List ℕ) → Made
-made_with types = record { reads = map (key_at kinds.Type) types; replaces = []; words = []; given = given.Types types }
-
 abbrev bean_with : BeanDecl → List DeclKey → List (List ℕ) → List Effective → Made
 bean_with bean reads replaces records = record {
   reads = reads;
@@ -49,9 +46,6 @@ bean_with bean reads replaces records = record {
   words = words_of records (decls.Bean bean) bean.observers;
   given = given.Records records;
 }
-
-abbrev binding_with : List DeclKey → Made
-binding_with reads = record { reads = reads; replaces = []; words = []; given = given.Nothing }
 
 bindings-stay : (edits : List Edit) (ds : List Decl) (us : List Qual) → Avoid (binding_reads ds us) edits
     → binding_reads (edited_all ds edits) us ≡ binding_reads ds us

@@ -63,12 +63,13 @@ unfoldable pub use Rattle.cdi_index.specs.Made.{words_named}
 pub use Rattle.cdi_index.specs.declared.change.Change.{Change}
 pub use Rattle.cdi_index.specs.Counted.{is_of_kind, computed, is_recorded}
 pub use Rattle.cdi_index.specs.Kept.{Stored, made_in, Keeps, stored, IsExact, IsShelf, IsSound, kept_at, slot_of, stored_at}
-pub use Rattle.cdi_index.specs.Kept.{is_reader_among, touches}
+pub use Rattle.cdi_index.specs.Kept.{is_reader_among, number_in, touches}
+pub use Rattle.cdi_index.specs.Slots.{kept_of}
 pub use Rattle.cdi_index.specs.Next.{applied, change_of, is_made, stored_as, IsNext}
 pub use Rattle.cdi_index.specs.declared.shelf.Shelf.{Shelf}
 pub use Rattle.cdi_index.specs.Told.{Tells}
 pub use Rattle.cdi_index.specs.declared.shelf.Kept.{Kept}
-pub use Rattle.cdi_index.specs.Under.{words_by, beans_under, has_one, is_at, records_at, is_at_slots, is_at_words, records_kept, has_name}
+pub use Rattle.cdi_index.specs.Under.{words_by, beans_under, has_one, is_at, records_at, is_at_slots, is_at_words, has_name}
 pub use Rattle.cdi_index.specs.Under.{observes_one, is_sought}
 pub use Rattle.cdi_index.specs.Asked.{asks_in, is_asked}
 unfoldable pub use Rattle.cdi_index.specs.Asked.{asks_for}

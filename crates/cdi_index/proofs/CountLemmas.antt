@@ -139,13 +139,13 @@ module _ (which : Kind) (has : is_recorded which ≡ true) (ds : List Decl) (edi
   counted-at kinds.Interceptor name = other kinds.Interceptor name refl
 
   -- the changes that made something are as many
-  pub count-changes : AreDistinct es → (ks : List DeclKey) → IsDistinct same_key ks
+  pub count-changes : (numbers : DeclKey → ℕ) → AreDistinct es → (ks : List DeclKey) → IsDistinct same_key ks
       → ((k : DeclKey) → list_any (same_key k) ks ≡ list_any (hits ds k) keys)
-      → length (filter (is_made which) (map (change_of es) ks)) ≡ computed which ds es keys
-  count-changes distinct ks once affected =
+      → length (filter (is_made which) (map (change_of es numbers) ks)) ≡ computed which ds es keys
+  count-changes numbers distinct ks once affected =
       let p : DeclKey → Bool = λ k. is_of_kind which k && is_some (made_of es k) in
       let r : DeclKey → Bool = λ k. is_computed_of which ds keys k in
-      count-made which es ks
+      count-made which es numbers ks
       ∙ length-from_same_keys same_key_equiv (filter p ks) (filter r (map key_of es)) (distinct-filter p ks once)
       (distinct-filter r (map key_of es) (keys-distinct es distinct))
       (λ q. is_member-filter same_key_equiv p q (λ x e. ap p (key_exact q x e)) ks

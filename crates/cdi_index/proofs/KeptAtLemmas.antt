@@ -1,24 +1,19 @@
 -- What is kept of declarations is at its slot, before a commit and after it.
 use Rattle.cdi_index.proofs.Common.{list_any, ◌≡◌, ℕ, Bool, true, false, List, [], ◌∷◌, Option, Some, None, option_map, refl, sym, ap, ◌∙◌}
-use Rattle.cdi_index.proofs.Common.{DeclKey, same_key, is_among, same_key_equiv, Made, or_parts, suc, zero, ◌+◌, ◌-◌, ◌<◌}
+use Rattle.cdi_index.proofs.Common.{DeclKey, same_key, is_among, same_key_equiv, kept_of, or_parts, suc, zero, ◌+◌, ◌-◌, ◌<◌}
 use Rattle.cdi_index.proofs.Common.{cond, slice_get, Change, Kept, Shelf, kept_at, stored, slot_of, stored_at, Stored, IsShelf, IsDistinct}
 use Rattle.cdi_index.proofs.Common.{AllByRecursion, subst, applied, stored_as, keys_changed, nat_lt, arith}
 use Rattle.std.proofs.lemmas.Bool.{ltb-false}
 use Rattle.std.proofs.Math.Nat.{add-zero}
-use Rattle.cdi_index.proofs.ChangeLemmas.{among-turned, comes, slide, Anew, Before, StoredBy}
+use Rattle.cdi_index.proofs.ChangeLemmas.{among-turned, comes, key-of, slide, Anew, Before, StoredBy}
 use Rattle.cdi_index.proofs.ShelfLemmas.{found}
 use Rattle.cdi_index.specs.Kept.{IsFreeFrom}
 use Rattle.cdi_index.specs.Slots.{kept_after, kept_of_one, unless_among, AreAtSlots}
 
-entry-is : (e : Kept) (k : DeclKey) (made : Made) → e.key ≡ k → e.made ≡ made → e ≡ record { key = k; made = made }
-entry-is e k made key is = λ i. record { key = key i; made = is i }
-
 pub shelf-at : (shelf : Shelf) → IsShelf shelf → AreAtSlots (stored shelf) (kept_at shelf)
 shelf-at shelf is = record {
-  there = λ k s made at.
-      let it = found (slot_of shelf) (kept_at shelf) is.owns k s made at in
-      it.there ∙ ap Some (entry-is it.entry k made it.key it.is);
-  owned = λ s e at. ap (stored_at (kept_at shelf)) (is.owned s e at) ∙ ap (option_map {U = Stored} (λ x. (s, x.made))) at;
+  there = λ k s e at. let it = found (slot_of shelf) (kept_at shelf) is.owns k s e at in (it.there, it.key);
+  owned = λ s e at. ap (stored_at (kept_at shelf)) (is.owned s e at) ∙ ap (option_map {U = Stored} (λ x. (s, x))) at;
 }
 
 -- ---- after changes
@@ -63,26 +58,26 @@ module _ (shelf : Shelf) (n : ℕ) (cs : List Change) (keys : List DeclKey) (is 
   after-at : (s i : ℕ) → s ≡ n + i → kept s ≡ kept_of_one (slice_get cs i)
   after-at s i at = grind (arith, at)
 
-  there : (k : DeclKey) (s : ℕ) (made : Made) → applied n cs (stored shelf) k ≡ Some (s, made)
-      → kept s ≡ Some (record { key = k; made = made })
-  there k s made e = elim (comes n cs (stored shelf) k s made e) [
-    | Anew i c at slot key was ↦ after-at s i slot ∙ ap kept_of_one at
-        ∙ ap (option_map {U = Kept} (λ x. record { key = c.key; made = x })) was
-        ∙ ap (λ (x : DeclKey). Some (record { key = x; made = made })) key
+  there : (k : DeclKey) (s : ℕ) (e : Kept) → applied n cs (stored shelf) k ≡ Some (s, e) → (kept s ≡ Some e) × (e.key ≡ k)
+  there k s e h = elim (comes n cs (stored shelf) k s e h) [
+    | Anew i c at slot key was ↦ (after-at s i slot ∙ ap kept_of_one at ∙ was, key-of c e was ∙ key)
     | Before none was ↦
-        let at = (shelf-at shelf is).there k s made was in
-        before-at s (free s (record { key = k; made = made }) at) ∙ ap (unless_among keys) at
-        ∙ ap (λ b. cond b None (Some (record { key = k; made = made }))) (among-turned keys k ∙ ap (λ ks. is_among ks k) (sym are) ∙ none)
+        let at = (shelf-at shelf is).there k s e was in (
+          before-at s (free s e at.0) ∙ ap (unless_among keys) at.0
+              ∙ ap (λ b. cond b None (Some e))
+              (among-turned keys e.key ∙ ap (is_among keys) at.1 ∙ ap (λ ks. is_among ks k) (sym are) ∙ none),
+          at.1,
+        )
   ]
 
-  owned : (s : ℕ) (e : Kept) → kept s ≡ Some e → applied n cs (stored shelf) e.key ≡ Some (s, e.made)
+  owned : (s : ℕ) (e : Kept) → kept s ≡ Some e → applied n cs (stored shelf) e.key ≡ Some (s, e)
   owned s e at = by (nat_lt s n) refl
     where
-      still : (o : Option Kept) → kept_at shelf s ≡ o → unless_among keys o ≡ Some e → applied n cs (stored shelf) e.key ≡ Some (s, e.made)
+      still : (o : Option Kept) → kept_at shelf s ≡ o → unless_among keys o ≡ Some e → applied n cs (stored shelf) e.key ≡ Some (s, e)
       still None there-is f = absurd (let none : None ≡ Some e = f in cc)
       still (Some x) there-is f = among (list_any (same_key x.key) keys) refl f
         where
-          among : (b : Bool) → list_any (same_key x.key) keys ≡ b → cond b None (Some x) ≡ Some e → applied n cs (stored shelf) e.key ≡ Some (s, e.made)
+          among : (b : Bool) → list_any (same_key x.key) keys ≡ b → cond b None (Some x) ≡ Some e → applied n cs (stored shelf) e.key ≡ Some (s, e)
           among true g h = absurd (let none : None ≡ Some e = h in cc)
           among false g h =
               let one : Some x ≡ Some e = h in
@@ -92,23 +87,15 @@ module _ (shelf : Shelf) (n : ℕ) (cs : List Change) (keys : List DeclKey) (is 
               ((shelf-at shelf is).owned s e (there-is ∙ ap Some same))
 
       anew : (i : ℕ) → s ≡ n + i → (o : Option Change) → slice_get cs i ≡ o → kept_of_one o ≡ Some e
-          → applied n cs (stored shelf) e.key ≡ Some (s, e.made)
+          → applied n cs (stored shelf) e.key ≡ Some (s, e)
       anew i slot None there-is f = absurd (let none : None ≡ Some e = f in cc)
-      anew i slot (Some c) there-is f = made (c.made) refl f
-        where
-          made : (o : Option Made) → c.made ≡ o → option_map {U = Kept} (λ x. record { key = c.key; made = x }) o ≡ Some e
-              → applied n cs (stored shelf) e.key ≡ Some (s, e.made)
-          made None g h = absurd (let none : None ≡ Some e = h in cc)
-          made (Some x) g h =
-              let one : Some (record { key = c.key; made = x }) ≡ Some e = h in
-              let same : record { key = c.key; made = x } ≡ e = cc in
-              let there : applied n cs (stored shelf) c.key ≡ option_map {U = Stored} (λ y. (n + i, y)) c.made =
-              own n cs (stored shelf) i c (subst (IsDistinct same_key) (sym are) once) there-is in
-              ap (applied n cs (stored shelf)) (ap (λ (y : Kept). y.key) (sym same)) ∙ there
-              ∙ ap (option_map {U = Stored} (λ y. (n + i, y))) g
-              ∙ ap (λ y. Some (y, x)) (sym slot) ∙ ap (λ (y : Kept). Some (s, y.made)) same
+      anew i slot (Some c) there-is f =
+          let there : applied n cs (stored shelf) c.key ≡ option_map {U = Stored} (λ y. (n + i, y)) (kept_of c) =
+          own n cs (stored shelf) i c (subst (IsDistinct same_key) (sym are) once) there-is in
+          ap (applied n cs (stored shelf)) (key-of c e f) ∙ there
+          ∙ ap (option_map {U = Stored} (λ y. (n + i, y))) f ∙ ap {B = Option Stored} (λ x. Some (x, e)) (sym slot)
 
-      by : (b : Bool) → nat_lt s n ≡ b → applied n cs (stored shelf) e.key ≡ Some (s, e.made)
+      by : (b : Bool) → nat_lt s n ≡ b → applied n cs (stored shelf) e.key ≡ Some (s, e)
       by true less = still (kept_at shelf s) refl (grind (arith, less, at))
       by false more = anew (s - n) (omega (arith, ltb-false s n more)) (slice_get cs (s - n)) refl (grind (arith, more, at))
 

@@ -13,6 +13,9 @@ mod KeyLemmas
 mod ReplacedLemmas
 pub mod UnderLemmas
 mod SlotLemmas
+mod OrderLemmas
+mod NumberLemmas
+mod InOrderLemmas
 pub mod NamedLemmas
 pub mod AskedLemmas
 mod ToldLemmas

@@ -62,13 +62,14 @@ keys-next es keys i key made first slot b c lt at is number kept listed before w
     ]
 
 -- and the change of it comes after those before
-pub changes-next : (es : List Decl) (keys : List DeclKey) (i : ℕ) (key : DeclKey) (made : Option Made)
-    (olds news : List Change) → i < length keys → key ≡ get_or keys i key → made ≡ made_of es key
-    → news ≡ olds ++ record { key = key; made = made } ∷ [] → olds ≡ map (change_of es) (take i keys)
-    → news ≡ map (change_of es) (take (i + 1) keys)
-changes-next es keys i key made olds news lt at is pushed before =
-    let change : Option Made → Change = λ m. record { key = key; made = m } in
-    pushed ∙ ap (λ m. olds ++ change m ∷ []) is ∙ ap (λ cs. cs ++ change_of es key ∷ []) before
-    ∙ ap (λ k. map (change_of es) (take i keys) ++ change_of es k ∷ []) at
-    ∙ sym (map-append (change_of es) (take i keys) (get_or keys i key ∷ []))
-    ∙ ap (map (change_of es)) (sym (take_more keys i key lt))
+pub changes-next : (es : List Decl) (numbers : DeclKey → ℕ) (keys : List DeclKey) (i : ℕ) (key : DeclKey) (n : ℕ) (made : Option Made)
+    (olds news : List Change) → i < length keys → key ≡ get_or keys i key → made ≡ made_of es key → n ≡ numbers key
+    → news ≡ olds ++ record { key = key; number = n; made = made } ∷ [] → olds ≡ map (change_of es numbers) (take i keys)
+    → news ≡ map (change_of es numbers) (take (i + 1) keys)
+changes-next es numbers keys i key n made olds news lt at is number pushed before =
+    let change : ℕ → Option Made → Change = λ j m. record { key = key; number = j; made = m } in
+    pushed ∙ ap (λ m. olds ++ change n m ∷ []) is ∙ ap (λ j. olds ++ change j (made_of es key) ∷ []) number
+    ∙ ap (λ cs. cs ++ change_of es numbers key ∷ []) before
+    ∙ ap (λ k. map (change_of es numbers) (take i keys) ++ change_of es numbers k ∷ []) at
+    ∙ sym (map-append (change_of es numbers) (take i keys) (get_or keys i key ∷ []))
+    ∙ ap (map (change_of es numbers)) (sym (take_more keys i key lt))

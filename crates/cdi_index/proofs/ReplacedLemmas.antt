@@ -179,13 +179,13 @@ word-of-replaced made k h =
           | inr later ↦ or_right (same_word (replaced-word c) w) (classes_have classes w) (by classes later)
         ]
 
-made-after : (es : List Decl) (ks : List DeclKey) (before : Option Made) (k : DeclKey)
-    → made_after (map (change_of es) ks) before k ≡ cond (list_any (same_key k) ks) (made_of es k) before
-made-after es [] before k = refl
-made-after es (l ∷ ks) before k = by (same_key l k) refl (made-after es ks before k)
+made-after : (es : List Decl) (numbers : DeclKey → ℕ) (ks : List DeclKey) (before : Option Made) (k : DeclKey)
+    → made_after (map (change_of es numbers) ks) before k ≡ cond (list_any (same_key k) ks) (made_of es k) before
+made-after es numbers [] before k = refl
+made-after es numbers (l ∷ ks) before k = by (same_key l k) refl (made-after es numbers ks before k)
   where
-    by : (b : Bool) → same_key l k ≡ b → made_after (map (change_of es) ks) before k ≡ cond (list_any (same_key k) ks) (made_of es k) before
-        → cond b (made_of es l) (made_after (map (change_of es) ks) before k)
+    by : (b : Bool) → same_key l k ≡ b → made_after (map (change_of es numbers) ks) before k ≡ cond (list_any (same_key k) ks) (made_of es k) before
+        → cond b (made_of es l) (made_after (map (change_of es numbers) ks) before k)
         ≡ cond (same_key k l || list_any (same_key k) ks) (made_of es k) before
     by true e more = ap (made_of es) (key_exact l k e)
         ∙ ap (λ c. cond (c || list_any (same_key k) ks) (made_of es k) before) (sym (same_key_equiv.symm k l ∙ e))
@@ -194,18 +194,18 @@ made-after es (l ∷ ks) before k = by (same_key l k) refl (made-after es ks bef
 any-key : (p : DeclKey → Bool) (ks : List DeclKey) (k : DeclKey) → list_any (same_key k) ks ≡ true → p k ≡ true → list_any p ks ≡ true
 any-key p ks k among h = any-more (same_key k) p ks (λ l same. ap p (sym (key_exact k l same)) ∙ h) among
 
-module _ (ds es : List Decl) (ks : List DeclKey) (shelf : Shelf) (listings : List Listing) (distinct : AreDistinct ds)
+module _ (ds es : List Decl) (numbers : DeclKey → ℕ) (ks : List DeclKey) (shelf : Shelf) (listings : List Listing) (distinct : AreDistinct ds)
     (apart : AreDistinct es)
     (is : IsShelf shelf) (exact : IsExact ds (stored shelf)) (sound : IsSound (stored shelf) listings)
     (others : (k : DeclKey) → list_any (same_key k) ks ≡ false → made_of es k ≡ made_of ds k) where
   abbrev changes : List Change
-  changes = map (change_of es) ks
+  changes = map (change_of es numbers) ks
 
   abbrev word_slots : DeclKey → List ℕ
   word_slots k = under listings (word_at reasons.Replaces k.name)
 
   anew-is : (k : DeclKey) → is_replaced_anew changes k ≡ list_any (λ a. replaces (made_of es a) k) ks
-  anew-is k = any-map (λ c. replaces c.made k) (change_of es) ks
+  anew-is k = any-map (λ c. replaces c.made k) (change_of es numbers) ks
 
   -- who is found replaced is replaced
   found-replaced : (k : DeclKey) → is_replaced_after shelf listings ks changes k ≡ true → is_replaced_key es k ≡ true
@@ -218,8 +218,8 @@ module _ (ds es : List Decl) (ks : List DeclKey) (shelf : Shelf) (listings : Lis
       by s None at r = absurd (false≢true r)
       by s (Some e) at r =
           let parts = and_parts (not (list_any (same_key e.key) ks)) (replaces (Some e.made) k) r in
-          let kept : stored shelf e.key ≡ Some (s, e.made) = ap (stored_at (kept_at shelf)) (is.owned s e at)
-          ∙ ap (option_map {U = Stored} (λ x. (s, x.made))) at in
+          let kept : stored shelf e.key ≡ Some (s, e) = ap (stored_at (kept_at shelf)) (is.owned s e at)
+          ∙ ap (option_map {U = Stored} (λ x. (s, x))) at in
           let none : list_any (same_key e.key) ks ≡ false = un_not (list_any (same_key e.key) ks) parts.0 in
           is-replaced es e.key k
           (ap (λ m. replaces m k) (others e.key none ∙ sym (exact e.key) ∙ ap made_in kept) ∙ parts.1)
@@ -243,15 +243,15 @@ module _ (ds es : List Decl) (ks : List DeclKey) (shelf : Shelf) (listings : Lis
 
           at : (o : Option Stored) → stored shelf a ≡ o → is_replaced_still shelf ks (word_slots k) k ≡ true
           at None e = absurd (false≢true (ap (λ o. replaces (made_in o) k) (sym e) ∙ before))
-          at (Some (s, made)) e =
-              let it = found (slot_of shelf) (kept_at shelf) is.owns a s made e in
-              let replaced : replaces (Some made) k ≡ true = ap (λ o. replaces (made_in o) k) (sym e) ∙ before in
+          at (Some (s, x)) e =
+              let it = found (slot_of shelf) (kept_at shelf) is.owns a s x e in
+              let replaced : replaces (Some x.made) k ≡ true = ap (λ o. replaces (made_in o) k) (sym e) ∙ before in
               let other : is_other ks (kept_at shelf s) k ≡ true = ap (λ o. is_other ks o k) it.there
-              ∙ and_from (not (list_any (same_key it.entry.key) ks)) (replaces (Some it.entry.made) k)
-              (ap (λ x. not (list_any (same_key x) ks)) it.key ∙ ap not none) (ap (λ m. replaces (Some m) k) it.is ∙ replaced) in
+              ∙ and_from (not (list_any (same_key x.key) ks)) (replaces (Some x.made) k)
+              (ap (λ l. not (list_any (same_key l) ks)) it.key ∙ ap not none) replaced in
               any-more (nat_eq s) (λ t. is_other ks (kept_at shelf t) k) (word_slots k)
-              (λ t same. ap (λ x. is_other ks (kept_at shelf x) k) (sym (eqb-true s t same)) ∙ other)
-              (sound (word_at reasons.Replaces k.name) a s made e (word-of-replaced made k replaced))
+              (λ t same. ap (λ i. is_other ks (kept_at shelf i) k) (sym (eqb-true s t same)) ∙ other)
+              (sound (word_at reasons.Replaces k.name) a s x e (word-of-replaced x.made k replaced))
 
       by : (a : DeclKey) → replaces (made_of es a) k ≡ true → (b : Bool) → list_any (same_key a) ks ≡ b
           → is_replaced_after shelf listings ks changes k ≡ true
@@ -269,8 +269,8 @@ module _ (ds es : List Decl) (ks : List DeclKey) (shelf : Shelf) (listings : Lis
   records-are k = ap (λ b. cond b (disabled (made_after changes (made_in (stored shelf k)) k)) None) (flag k)
       ∙ ap (λ m. cond (is_replaced_key es k) (disabled m) None) (after-is k)
 
-  stake-is : (k : DeclKey) → is_at_stake shelf changes k ≡ list_any (λ a. stakes shelf k (change_of es a)) ks
-  stake-is k = any-map (stakes shelf k) (change_of es) ks
+  stake-is : (k : DeclKey) → is_at_stake shelf changes k ≡ list_any (λ a. stakes shelf k (change_of es numbers a)) ks
+  stake-is k = any-map (stakes shelf k) (change_of es numbers) ks
 
   -- who is affected is at stake
   pub unaffected : (k : DeclKey) → is_at_stake shelf changes k ≡ false → list_any (same_key k) ks ≡ false
@@ -280,8 +280,8 @@ module _ (ds es : List Decl) (ks : List DeclKey) (shelf : Shelf) (listings : Lis
   pub flag-spared : (k : DeclKey) → is_at_stake shelf changes k ≡ false → is_replaced_key es k ≡ is_replaced_key ds k
   flag-spared k none = same-bool (is_replaced_key es k) (is_replaced_key ds k) here there
     where
-      at_stake : (a : DeclKey) → list_any (same_key a) ks ≡ true → stakes shelf k (change_of es a) ≡ true → ⊥
-      at_stake a among h = false≢true (sym none ∙ stake-is k ∙ any-key (λ x. stakes shelf k (change_of es x)) ks a among h)
+      at_stake : (a : DeclKey) → list_any (same_key a) ks ≡ true → stakes shelf k (change_of es numbers a) ≡ true → ⊥
+      at_stake a among h = false≢true (sym none ∙ stake-is k ∙ any-key (λ x. stakes shelf k (change_of es numbers x)) ks a among h)
 
       here : is_replaced_key es k ≡ true → is_replaced_key ds k ≡ true
       here h = let it = replaced-by es apart k h in by it.by it.replaces (list_any (same_key it.by) ks) refl

@@ -1,6 +1,6 @@
 -- What is kept at slots, where one is taken out or put in.
 use Rattle.cdi_index.proofs.Common.{◌≡◌, ℕ, Bool, true, false, Option, Some, None, option_map, refl, sym, ap, ◌∙◌, DeclKey, same_key}
-use Rattle.cdi_index.proofs.Common.{key_exact, Made, false≢true, Kept, cond, same_key_equiv, Stored, nat_eq, eqb-true, stored_at, Result}
+use Rattle.cdi_index.proofs.Common.{key_exact, false≢true, Kept, cond, same_key_equiv, Stored, nat_eq, eqb-true, stored_at, Result}
 use Rattle.cdi_index.proofs.Common.{Ok, Err, OnOk, nat_eq-refl, arith}
 use Rattle.std.specs.Result.{IsOk}
 use Rattle.cdi_index.proofs.ChangeLemmas.{one-stored}
@@ -13,12 +13,10 @@ abbrev pub Entries : Type 0
 Entries = ℕ → Option Kept
 
 -- what is found of a declaration
-pub record Found (f : Slots) (g : Entries) (k : DeclKey) (s : ℕ) (made : Made) : Type 0 where
-  pub entry : Kept
+pub record Found (f : Slots) (g : Entries) (k : DeclKey) (s : ℕ) (e : Kept) : Type 0 where
   pub slot : f k ≡ Some s
-  pub there : g s ≡ Some entry
-  pub key : entry.key ≡ k
-  pub is : entry.made ≡ made
+  pub there : g s ≡ Some e
+  pub key : e.key ≡ k
 
 some-key : (e : Kept) (k : DeclKey) → Some e.key ≡ Some k → e.key ≡ k
 some-key e k h = cc
@@ -28,25 +26,24 @@ module _ (f : Slots) (g : Entries) (owns : Owns f g) where
   pub own-key : (k : DeclKey) (s : ℕ) (e : Kept) → f k ≡ Some s → g s ≡ Some e → e.key ≡ k
   own-key k s e at there = some-key e k (ap (option_map (λ (x : Kept). x.key)) (sym there) ∙ owns k s at)
 
-  pub found : (k : DeclKey) (s : ℕ) (made : Made) → stored_at g (f k) ≡ Some (s, made) → Found f g k s made
-  found k s made h = by (f k) refl h
+  pub found : (k : DeclKey) (s : ℕ) (e : Kept) → stored_at g (f k) ≡ Some (s, e) → Found f g k s e
+  found k s e h = by (f k) refl h
     where
-      there : (t : ℕ) → f k ≡ Some t → (o : Option Kept) → g t ≡ o → option_map {U = Stored} (λ e. (t, e.made)) o ≡ Some (s, made)
-          → Found f g k s made
-      there t at None is e = absurd (let none : None ≡ Some (s, made) = e in cc)
-      there t at (Some entry) is e =
-          let one = one-stored t s entry.made made e in
+      there : (t : ℕ) → f k ≡ Some t → (o : Option Kept) → g t ≡ o → option_map {U = Stored} (λ x. (t, x)) o ≡ Some (s, e)
+          → Found f g k s e
+      there t at None is x = absurd (let none : None ≡ Some (s, e) = x in cc)
+      there t at (Some entry) is x =
+          let one = one-stored t s entry e x in
+          let here : g s ≡ Some e = ap g (sym one.0) ∙ is ∙ ap Some one.1 in
           record {
-            entry = entry;
             slot = at ∙ ap Some one.0;
-            there = ap g (sym one.0) ∙ is;
-            key = own-key k t entry at is;
-            is = one.1;
+            there = here;
+            key = own-key k s e (at ∙ ap Some one.0) here;
           }
 
-      by : (o : Option ℕ) → f k ≡ o → stored_at g o ≡ Some (s, made) → Found f g k s made
-      by None at e = absurd (let none : None ≡ Some (s, made) = e in cc)
-      by (Some t) at e = there t at (g t) refl e
+      by : (o : Option ℕ) → f k ≡ o → stored_at g o ≡ Some (s, e) → Found f g k s e
+      by None at x = absurd (let none : None ≡ Some (s, e) = x in cc)
+      by (Some t) at x = there t at (g t) refl x
 
   -- two declarations have no slot in common
   pub one-slot : (k l : DeclKey) (s : ℕ) (e : Kept) → f k ≡ Some s → f l ≡ Some s → g s ≡ Some e → k ≡ l
@@ -83,13 +80,10 @@ module _ (f f' : Slots) (g g' : Entries) (key : DeclKey) (slot : ℕ) (entry : K
 
 -- ---- put in
 
-module _ (f f' : Slots) (g g' : Entries) (key : DeclKey) (slot : ℕ) (made : Made) (owns : Owns f g) (owned : IsOwned f g)
-    (absent : f key ≡ None) (free : g slot ≡ None)
-    (put : (k : DeclKey) → f' k ≡ cond (same_key key k) (Some slot) (f k))
-    (kept : (s : ℕ) → g' s ≡ cond (nat_eq slot s) (Some (record { key = key; made = made })) (g s)) where
-  abbrev entry : Kept
-  entry = record { key = key; made = made }
-
+module _ (f f' : Slots) (g g' : Entries) (slot : ℕ) (entry : Kept) (owns : Owns f g) (owned : IsOwned f g)
+    (absent : f entry.key ≡ None) (free : g slot ≡ None)
+    (put : (k : DeclKey) → f' k ≡ cond (same_key entry.key k) (Some slot) (f k))
+    (kept : (s : ℕ) → g' s ≡ cond (nat_eq slot s) (Some entry) (g s)) where
   there-now : g' slot ≡ Some entry
   there-now = kept slot ∙ ap (λ b. cond b (Some entry) (g slot)) (nat_eq-refl slot)
 
@@ -100,14 +94,14 @@ module _ (f f' : Slots) (g g' : Entries) (key : DeclKey) (slot : ℕ) (made : Ma
       by true e = absurd (never-free f g owns k s at (ap g (sym (eqb-true slot s e)) ∙ free))
       by false e = kept s ∙ ap (λ b. cond b (Some entry) (g s)) e
 
-  pub put-stored : (k : DeclKey) → stored_at g' (f' k) ≡ cond (same_key key k) (Some (slot, made)) (stored_at g (f k))
-  put-stored k = grind (arith, stays-at, there-now)
+  pub put-stored : (k : DeclKey) → stored_at g' (f' k) ≡ cond (same_key entry.key k) (Some (slot, entry)) (stored_at g (f k))
+  put-stored k = grind (arith, entry.key, stays-at, there-now)
 
   pub put-owns : Owns f' g'
-  put-owns k s h = grind (arith, there-now, key_exact, stays-at)
+  put-owns k s h = grind (arith, entry.key, there-now, key_exact, stays-at)
 
   pub put-owned : IsOwned f' g'
-  put-owned s e h = grind (arith, e.key, same_key_equiv.refl, eqb-true, key_exact)
+  put-owned s e h = grind (arith, e.key, entry.key, same_key_equiv.refl, eqb-true, key_exact)
 
 -- what is told of a success
 pub on-ok : {T E P : Type 0} (r : Result T E) → IsOk r → OnOk r P → P

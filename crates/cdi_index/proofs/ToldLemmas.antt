@@ -8,17 +8,17 @@ use Rattle.cdi_index.proofs.AffectedLemmas.{hits, hit-parts}
 use Rattle.cdi_index.proofs.ChangeLemmas.{none-of}
 use Rattle.cdi_index.proofs.ReplacedLemmas.{flag-spared, lent-are, spared, unaffected}
 
-module _ (ds es : List Decl) (keys ks told : List DeclKey) (shelf : Shelf) (listings : List Listing) (distinct : AreDistinct ds)
+module _ (ds es : List Decl) (numbers : DeclKey → ℕ) (keys ks told : List DeclKey) (shelf : Shelf) (listings : List Listing) (distinct : AreDistinct ds)
     (apart : AreDistinct es) (is : IsShelf shelf) (exact : IsExact ds (stored shelf)) (sound : IsSound (stored shelf) listings)
     (others : (k : DeclKey) → list_any (same_key k) ks ≡ false → made_of es k ≡ made_of ds k)
     (affected : (k : DeclKey) → list_any (same_key k) ks ≡ list_any (hits ds k) keys)
-    (at_stake : (k : DeclKey) → is_among told k ≡ is_at_stake shelf (map (change_of es) ks) k) where
-  none-at-stake : (k : DeclKey) → is_among told k ≡ false → is_at_stake shelf (map (change_of es) ks) k ≡ false
+    (at_stake : (k : DeclKey) → is_among told k ≡ is_at_stake shelf (map (change_of es numbers) ks) k) where
+  none-at-stake : (k : DeclKey) → is_among told k ≡ false → is_at_stake shelf (map (change_of es numbers) ks) k ≡ false
   none-at-stake k none = sym (at_stake k) ∙ none
 
   -- what is not told is not affected
   not-hit : (k : DeclKey) → is_among told k ≡ false → list_any (hits ds k) keys ≡ false
-  not-hit k none = sym (affected k) ∙ unaffected ds es ks shelf listings distinct apart is exact sound others k (none-at-stake k none)
+  not-hit k none = sym (affected k) ∙ unaffected ds es numbers ks shelf listings distinct apart is exact sound others k (none-at-stake k none)
 
   edited-told : (k : DeclKey) → is_kept k.kind ≡ true → is_among keys k ≡ true → is_among told k ≡ true
   edited-told k kept among = by (is_among told k) refl
@@ -38,11 +38,11 @@ module _ (ds es : List Decl) (keys ks told : List DeclKey) (shelf : Shelf) (list
     records = λ class none.
         let k = key_at kinds.Bean class in
         sym (lent-are es class)
-        ∙ ap (λ o. lent o (made_of es k)) (spared ds es ks shelf listings distinct apart is exact sound others k (none-at-stake k none))
+        ∙ ap (λ o. lent o (made_of es k)) (spared ds es numbers ks shelf listings distinct apart is exact sound others k (none-at-stake k none))
         ∙ ap (lent (replaced_records ds k))
-        (others k (unaffected ds es ks shelf listings distinct apart is exact sound others k (none-at-stake k none)))
+        (others k (unaffected ds es numbers ks shelf listings distinct apart is exact sound others k (none-at-stake k none)))
         ∙ lent-are ds class;
-    turned = λ class none. flag-spared ds es ks shelf listings distinct apart is exact sound others (key_at kinds.Bean class)
+    turned = λ class none. flag-spared ds es numbers ks shelf listings distinct apart is exact sound others (key_at kinds.Bean class)
         (none-at-stake (key_at kinds.Bean class) none);
   }
 

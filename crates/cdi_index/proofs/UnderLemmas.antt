@@ -4,7 +4,7 @@ use Rattle.cdi_index.proofs.Common.{list_any, BeanDecl, Decl, Kind, DeclKey, key
 use Rattle.cdi_index.proofs.Common.{made_of_bean, made_of_interceptor, ◌++◌, flat_map, option_map_or, false≢true, or_right, key_of}
 use Rattle.cdi_index.proofs.Common.{AreDistinct, Word, Listing, under, Kept, IsExact, IsSound, words_have}
 use Rattle.cdi_index.proofs.Common.{words_by, suc, ◌+◌, cond, filter, same_key_equiv, Stored, made_in, nat_eq, arith, position}
-use Rattle.cdi_index.proofs.Common.{classes_have, keys_have, eqb-true, is_of, records_in, position-there, entries, made_by, beans_under}
+use Rattle.cdi_index.proofs.Common.{classes_have, keys_have, eqb-true, is_of, records_in, position-there, made_by}
 use Rattle.cdi_index.proofs.Common.{has_one, is_at, records_at, is_marked, marked_from, is_at_slots, is_at_words, slice_get, any-more}
 use Rattle.cdi_index.proofs.Common.{nat_eq-refl, same-bool}
 use Rattle.cdi_model.specs.declared.decl.Decl.TheVariants as decls
@@ -54,13 +54,13 @@ at-is : (ds : List Decl) (w : Word) (kept : Option Kept) (p : ℕ) (e : Kept) �
 at-is ds w kept p e there has place = grind (arith, e.key.kind, e.key.name, nat_eq-refl)
 
 -- what is made has a word, so it is of a declaration which has that
-abbrev OfDecl : List Decl → List Word → ℕ → Type 0
+abbrev pub OfDecl : List Decl → List Word → ℕ → Type 0
 OfDecl ds words p = (d : Decl) × (slice_get ds p ≡ Some d) × (words_by ds d ≡ words)
 
 pub some-made : (a b : Made) → Some a ≡ Some b → a ≡ b
 some-made a b h = cc
 
-of-decl : (ds : List Decl) (kind : Kind) (name : List ℕ) (made : Made) (w : Word) (p : ℕ) → made_by kind name ds ≡ Some made
+pub of-decl : (ds : List Decl) (kind : Kind) (name : List ℕ) (made : Made) (w : Word) (p : ℕ) → made_by kind name ds ≡ Some made
     → words_have made.words w ≡ true → position (is_of kind name) ds ≡ Some p → OfDecl ds made.words p
 of-decl ds kinds.Type name made w p is has at = grind (arith, false≢true, some-made)
 of-decl ds kinds.Bean name made w p is has at = by (find_decl kinds.Bean name ds) refl is
@@ -125,14 +125,15 @@ module _ (ds : List Decl) (m : DeclKey → Option Stored) (kept : ℕ → Option
     where
       by : (o : Option Stored) → m k ≡ o → made_in o ≡ Some x → list_any test (under listings w) ≡ true
       by None here none = absurd (let no : None ≡ Some x = none in cc)
-      by (Some (s, made)) here one =
-          let same : made ≡ x = some-made made x one in
-          let words : words_have made.words w ≡ true = ap (λ (y : Made). words_have y.words w) same ∙ has in
+      by (Some (s, e)) here one =
+          let same : e.made ≡ x = some-made e.made x one in
+          let words : words_have e.made.words w ≡ true = ap (λ (y : Made). words_have y.words w) same ∙ has in
+          let there = at_slots.there k s e here in
           any-more (nat_eq s) test (under listings w)
-          (λ t equal. ap test (sym (eqb-true s t equal)) ∙ says s (record { key = k; made = made }) (at_slots.there k s made here) refl same)
-          (sound w k s made here
-          (or_right (keys_have made.reads w) (classes_have made.replaces w || words_have made.words w)
-          (or_right (classes_have made.replaces w) (words_have made.words w) words)))
+          (λ t equal. ap test (sym (eqb-true s t equal)) ∙ says s e there.0 there.1 same)
+          (sound w k s e here
+          (or_right (keys_have e.made.reads w) (classes_have e.made.replaces w || words_have e.made.words w)
+          (or_right (classes_have e.made.replaces w) (words_have e.made.words w) words)))
 
   -- so its position is marked by its slot
   marks-from : (p : ℕ) (w : Word) (k : DeclKey) (x : Made) → made_of ds k ≡ Some x → position (is_of k.kind k.name) ds ≡ Some p
@@ -188,7 +189,7 @@ module _ {X Y : Type 0} (f : X → List Y) (test : X → Bool) (all : List X) wh
   abbrev found_at : ℕ → List Y
   found_at p = option_map_or f (slice_get all p) []
 
-  pub none-pass : (xs : List X) → ((i : ℕ) → false ≡ option_map_or test (slice_get xs i) false) → filter test xs ≡ []
+  none-pass : (xs : List X) → ((i : ℕ) → false ≡ option_map_or test (slice_get xs i) false) → filter test xs ≡ []
   none-pass [] blank = refl
   none-pass (x ∷ xs) blank = ap (λ b. cond b (x ∷ filter test xs) (filter test xs)) (sym (blank 0)) ∙ none-pass xs (λ i. blank (suc i))
 
@@ -213,9 +214,3 @@ module _ {X Y : Type 0} (f : X → List Y) (test : X → Bool) (all : List X) wh
       by true e false g h rest = absurd (false≢true (sym h))
       by false e true g h rest = absurd (false≢true h)
       by false e false g h rest = rest
-
--- so the records at marked positions are those of the declarations that have one of the words
-pub walked : (ds : List Decl) (words : List Word) (marks : List Bool)
-    → ((p : ℕ) → is_marked marks p ≡ option_map_or (has_one ds words) (slice_get ds p) false)
-    → flat_map (records_at ds) (marked_from 0 marks) ≡ beans_under ds words
-walked ds words marks marked = walk (entries ds) (has_one ds words) ds 0 marks ds (λ i. ap (slice_get ds) (omega arith)) marked

@@ -13,17 +13,20 @@ use Rattle.cdi_index.specs.declared.shelf.Kept.{Kept}
 use Rattle.cdi_index.specs.declared.shelf.Shelf.{Shelf}
 use Rattle.cdi_index.specs.Made.{has_word, is_kept, made_of, reads, word_of}
 
--- what is made of a declaration, and the slot where it is kept
+-- what is kept of a declaration, and its slot
 abbrev pub Stored : Type 0
-Stored = ℕ × Made
+Stored = ℕ × Kept
 
 abbrev pub made_in : Option Stored → Option Made
-made_in stored = option_map (λ s. s.1) stored
+made_in stored = option_map (λ s. s.1.made) stored
+
+abbrev pub number_in : Option Stored → Option ℕ
+number_in stored = option_map (λ s. s.1.number) stored
 
 -- what is kept at a slot
 abbrev pub stored_at : (ℕ → Option Kept) → Option ℕ → Option Stored
 stored_at kept None = None
-stored_at kept (Some slot) = option_map (λ k. (slot, k.made)) (kept slot)
+stored_at kept (Some slot) = option_map (λ e. (slot, e)) (kept slot)
 
 -- the slot of a declaration
 abbrev pub slot_of : Shelf → DeclKey → Option ℕ
@@ -58,7 +61,7 @@ IsExact ds m = (k : DeclKey) → made_in (m k) ≡ made_of ds k
 
 -- Each slot is listed under the words of what is kept there. It may be listed under others.
 abbrev pub IsSound : (DeclKey → Option Stored) → List Listing → Type 0
-IsSound m listings = (w : Word) (k : DeclKey) (s : ℕ) (made : Made) → m k ≡ Some (s, made) → has_word (Some made) w ≡ true
+IsSound m listings = (w : Word) (k : DeclKey) (s : ℕ) (e : Kept) → m k ≡ Some (s, e) → has_word (Some e.made) w ≡ true
     → is_listed listings w s ≡ true
 
 -- What is listed at slots before the first free one stays listed.

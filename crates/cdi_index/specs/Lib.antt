@@ -10,3 +10,5 @@ pub mod Asked
 pub mod AskedAt
 pub mod Under
 pub mod Candidates
+pub mod Numbers
+pub mod InOrder

@@ -14,11 +14,13 @@ use Rattle.cdi_index.specs.declared.shelf.Shelf.{Shelf}
 use Rattle.cdi_index.specs.Counted.{is_of_kind}
 use Rattle.cdi_index.specs.Kept.{Stored, stored, IsExact, IsFreeFrom, IsSound}
 use Rattle.cdi_index.specs.Made.{made_of}
-use Rattle.cdi_index.specs.Slots.{kept_next, AreAtSlots}
+use Rattle.cdi_index.specs.Numbers.{AreNumbered}
+use Rattle.cdi_index.specs.Slots.{kept_next, kept_of, AreAtSlots}
 use Rattle.cdi_index.specs.Replaced.{keys_changed, keys_turned, turned as turned_by, AreReplaced}
 
-abbrev pub change_of : List Decl → DeclKey → Change
-change_of ds k = record { key = k; made = made_of ds k }
+-- the change of a declaration, by the numbers of all
+abbrev pub change_of : List Decl → (DeclKey → ℕ) → DeclKey → Change
+change_of ds numbers k = record { key = k; number = numbers k; made = made_of ds k }
 
 -- the change is of the kind, and something was made
 abbrev pub is_made : Kind → Change → Bool
@@ -26,7 +28,7 @@ is_made kind c = is_of_kind kind c.key && is_some c.made
 
 -- what is kept at the slot n where this is made
 abbrev pub stored_as : ℕ → Change → Option Stored
-stored_as n c = option_map (λ made. (n, made)) c.made
+stored_as n c = option_map (λ e. (n, e)) (kept_of c)
 
 -- what is kept of each declaration after some changes, whose slots are numbered from n on
 abbrev pub applied : ℕ → List Change → (DeclKey → Option Stored) → DeclKey → Option Stored
@@ -45,6 +47,7 @@ pub record IsNext (shelf : Shelf) (listings : List Listing) (next : Next) : Type
   pub kept : length next.changes.items ≤ spare shelf.kept
   pub affected : keys_changed next.changes.items ≡ next.affected.keys
   pub once : IsDistinct same_key next.affected.keys
+  pub numbered : AreNumbered next.decls next.numbered (applied next.first next.changes.items (stored shelf))
   pub turned : AreReplaced next.decls (turned_by next.turns.list.items (get same_key shelf.replaced))
   pub replaced : length next.turns.list.items ≤ spare shelf.replaced
   pub beans : keys_turned next.turns.list.items ≡ next.turns.beans.keys
@@ -56,6 +59,7 @@ pub record IsAfter (shelf : Shelf) (listings : List Listing) (next : Next) : Typ
   pub exact : IsExact next.decls (applied next.first next.changes.items (stored shelf))
   pub sound : IsSound (applied next.first next.changes.items (stored shelf)) listings
   pub at : AreAtSlots (applied next.first next.changes.items (stored shelf)) (kept_next shelf next)
+  pub numbered : AreNumbered next.decls next.numbered (applied next.first next.changes.items (stored shelf))
   pub affected : keys_changed next.changes.items ≡ next.affected.keys
   pub turned : AreReplaced next.decls (turned_by next.turns.list.items (get same_key shelf.replaced))
   pub beans : keys_turned next.turns.list.items ≡ next.turns.beans.keys

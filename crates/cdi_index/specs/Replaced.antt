@@ -18,6 +18,8 @@ use Rattle.cdi_index.specs.declared.change.Change.{Change}
 use Rattle.cdi_index.specs.declared.making.Given.{Given}
 use Rattle.cdi_index.specs.declared.making.Given.TheVariants as given
 use Rattle.cdi_index.specs.declared.making.Made.{Made}
+use Rattle.cdi_index.specs.declared.prepare.Next.{Next}
+use Rattle.indexmap.specs.IndexMap.{get}
 use Rattle.cdi_index.specs.declared.replaced.Turn.{Turn}
 use Rattle.cdi_index.specs.declared.shelf.Kept.{Kept}
 use Rattle.cdi_index.specs.declared.shelf.Shelf.{Shelf}
@@ -114,3 +116,7 @@ keys_turned turns = map (λ t. t.key) turns
 abbrev pub turned : List Turn → (DeclKey → Option (List Effective)) → DeclKey → Option (List Effective)
 turned [] records k = records k
 turned (t ∷ ts) records k = cond (same_key t.key k) t.records (turned ts records k)
+
+-- the records of replaced beans after the next commit
+abbrev pub replaced_next : Shelf → Next → DeclKey → Option (List Effective)
+replaced_next shelf next = turned next.turns.list.items (get same_key shelf.replaced)

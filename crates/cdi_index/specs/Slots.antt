@@ -4,7 +4,6 @@ use Rattle.std.specs.List.{list_any}
 use Rattle.cdi_model.specs.declared.key.DeclKey.{DeclKey}
 use Rattle.cdi_model.specs.DeclKey.{same_key}
 use Rattle.cdi_index.specs.declared.change.Change.{Change}
-use Rattle.cdi_index.specs.declared.making.Made.{Made}
 use Rattle.cdi_index.specs.declared.prepare.Next.{Next}
 use Rattle.cdi_index.specs.declared.shelf.Entry.{Entry}
 use Rattle.cdi_index.specs.declared.shelf.Kept.{Kept}
@@ -12,18 +11,18 @@ use Rattle.cdi_index.specs.declared.shelf.Shelf.{Shelf}
 use Rattle.cdi_index.specs.Kept.{kept_at, Stored}
 
 abbrev pub entry_kept : Entry → Kept
-entry_kept e = record { key = e.key.now; made = e.made.now }
+entry_kept e = record { key = e.key.now; number = e.number; made = e.made.now }
 
 -- What is kept of a declaration is at its slot, and what is at a slot is kept of a declaration.
 pub record AreAtSlots (m : DeclKey → Option Stored) (kept : ℕ → Option Kept) : Type 0 where
-  pub there : (k : DeclKey) (s : ℕ) (made : Made) → m k ≡ Some (s, made) → kept s ≡ Some (record { key = k; made = made })
-  pub owned : (s : ℕ) (e : Kept) → kept s ≡ Some e → m e.key ≡ Some (s, e.made)
+  pub there : (k : DeclKey) (s : ℕ) (e : Kept) → m k ≡ Some (s, e) → (kept s ≡ Some e) × (e.key ≡ k)
+  pub owned : (s : ℕ) (e : Kept) → kept s ≡ Some e → m e.key ≡ Some (s, e)
 
 -- ---- after changes
 
 -- what is kept of a change
 abbrev pub kept_of : Change → Option Kept
-kept_of c = option_map (λ made. record { key = c.key; made = made }) c.made
+kept_of c = option_map (λ made. record { key = c.key; number = c.number; made = made }) c.made
 
 abbrev pub kept_of_one : Option Change → Option Kept
 kept_of_one None = None

@@ -12,6 +12,7 @@ use Rattle.cdi_index.specs.declared.prepare.Next.{Next}
 use Rattle.cdi_index.specs.declared.shelf.Shelf.{Shelf}
 use Rattle.cdi_index.specs.Kept.{stored, IsExact, IsFreeFrom, IsShelf, IsSound}
 use Rattle.cdi_index.specs.Next.{IsNext}
+use Rattle.cdi_index.specs.Numbers.{AreNumbered}
 use Rattle.cdi_index.specs.Replaced.{AreReplaced}
 use Rattle.indexmap.specs.IndexMap.{get}
 use Rattle.cdi_model.specs.DeclKey.{same_key}
@@ -87,5 +88,6 @@ pub record IsIndex (ds : List Decl) (shelf : Shelf) (listings : List Listing) (n
   pub free : IsFreeFrom shelf.given shelf
   pub exact : IsExact ds (stored shelf)
   pub sound : IsSound (stored shelf) listings
+  pub numbered : AreNumbered ds shelf.numbered (stored shelf)
   pub replaced : AreReplaced ds (get same_key shelf.replaced)
   pub staged : MayBeNext shelf listings next

@@ -5,7 +5,6 @@ use Rattle.std.specs.Option.{option_map_or}
 use Rattle.std.specs.Str.{bytes_eq}
 use Rattle.cdi_model.specs.declared.decl.Decl.{Decl}
 use Rattle.cdi_model.specs.declared.decl.Decl.TheVariants as decls
-use Rattle.cdi_model.specs.DeclKey.{same_key}
 use Rattle.cdi_model.specs.DeclList.{is_of}
 use Rattle.cdi_match.specs.Chain.{has}
 use Rattle.cdi_model.specs.declared.quals.Qual.{Qual}
@@ -15,13 +14,10 @@ use Rattle.cdi_effective.specs.Disposers.{find_bean}
 use Rattle.cdi_effective.specs.declared.records.Effective.{Effective}
 use Rattle.cdi_postings.specs.declared.word.Word.{Word}
 use Rattle.cdi_postings.specs.Listing.{Listing, under}
-use Rattle.indexmap.specs.IndexMap.{get}
 use Rattle.cdi_index.specs.declared.shelf.Kept.{Kept}
-use Rattle.cdi_index.specs.declared.shelf.Shelf.{Shelf}
 use Rattle.cdi_index.specs.declared.under.Sought.{Sought}
 use Rattle.cdi_index.specs.declared.under.Sought.TheVariants as sought
 use Rattle.cdi_index.specs.Made.{serves_as_alternative, words_have, words_of_bean, words_of_interceptor}
-use Rattle.cdi_index.specs.Replaced.{lent}
 
 -- ---- what is found
 
@@ -76,11 +72,6 @@ records_at ds p = option_map_or (entries ds) (slice_get ds p) []
 abbrev pub position_under : List Decl → Word → Option Kept → Option ℕ
 position_under ds word None = None
 position_under ds word (Some e) = if words_have e.made.words word then position (is_of e.key.kind e.key.name) ds else None
-
--- the records of the bean of which this is kept, where it has the word
-abbrev pub records_kept : Shelf → Word → Option Kept → List Effective
-records_kept shelf word None = []
-records_kept shelf word (Some e) = if words_have e.made.words word then lent (get same_key shelf.replaced e.key) (Some e.made) else []
 
 -- this is the position
 abbrev pub is_at : List Decl → Word → Option Kept → ℕ → Bool

@@ -3,25 +3,28 @@ ghost use Rattle.std.specs.Prelude.{◌≡◌, ◌<◌, ◌+◌, ◌-◌, ◌^�
 ghost use Rattle.std.specs.List.{list_any, slice_get};
 ghost use Rattle.indexmap.specs.IndexSet.{contains};
 ghost use Rattle.cdi_model.specs.DeclKey.{kind_number, same_key};
+ghost use Rattle.cdi_model.specs.DeclList.{limit};
 ghost use Rattle.cdi_postings.specs.Listing.{is_listed};
 ghost use Rattle.cdi_index.specs.Counted.{is_of_kind};
 ghost use Rattle.cdi_index.specs.Kept.{made_in, stored, Keeps};
 ghost use Rattle.cdi_index.specs.Made.{classes_have, has_word, keys_have, made_of, words_have};
 ghost use Rattle.cdi_index.specs.Next.{change_of, is_made};
+ghost use Rattle.cdi_index.specs.Numbers.{number_by};
 
 use crate::affected::{word_of, word_of_replaced};
 use crate::making::{Made, make};
 use crate::next_types::NextTypes;
-use crate::shelf::Shelf;
-use cdi_model::{DeclKey, Decls, Kind, Name};
+use crate::numbers::Numbers;
+use cdi_model::{DeclKey, Kind, Name};
 use cdi_postings::{Postings, Word};
 use indexmap::IndexSet;
 use std::alloc::{AllocError, Global};
 
-/// What is made of the declaration of a key, where there is one of which something is.
+/// What is made of the declaration of a key, where there is one of which something is, and its number.
 #[derive(Drop)]
 pub(crate) struct Change {
     pub(crate) key: DeclKey,
+    pub(crate) number: u64,
     pub(crate) made: Option<Made>,
 }
 
@@ -73,46 +76,54 @@ fn list_words(postings: &mut Postings, slot: u64, made: &Option<Made>) -> Result
     }
 }
 
-/// Makes what is made of the declarations of some keys, and lists slots, numbered from `first` on, under the words of it.
+/// Makes what is made of the declarations of some keys, with their numbers, and lists slots from the next one on under the words
+/// of it.
 fn change_all(
     alloc: Global,
     types: &NextTypes<'_>,
     keys: &[DeclKey],
-    first: u64,
+    numbers: Numbers<'_>,
     postings: &mut Postings,
 ) -> Result<Vec<Change>, AllocError>
-    requires { first + length keys.now < 2 ^ 64 }
+    requires slots { numbers.shelf.now.given + length keys.now < 2 ^ 64 }
+    requires numbers { numbers.shelf.now.numbered + limit < 2 ^ 64 }
     ensures kept { Keeps postings.old postings.new }
-    ensures changes { IfOk result (λ changes. changes.items ≡ map (change_of types.now.decls.now) keys.now) }
+    ensures changes { IfOk result (λ changes. changes.items ≡ map (change_of types.now.decls.now (number_by numbers.entry)) keys.now) }
     ensures listed { IfOk result (λ changes. (w : _) (i : _) (k : _) → slice_get keys.now i ≡ Some k
-        → has_word (made_of types.now.decls.now k) w ≡ true → is_listed postings.new w (first + i) ≡ true) }
+        → has_word (made_of types.now.decls.now k) w ≡ true → is_listed postings.new w (numbers.entry.shelf.now.given + i) ≡ true) }
 {
     let mut changes = Vec::with_capacity(alloc, keys.len())?;
     for key in keys {
         let made = make(alloc, types, key)?;
-        list_words(postings, first + changes.len() as u64, &made)?;
-        changes.push(Change { key: *key, made })?;
+        list_words(postings, numbers.shelf.given + changes.len() as u64, &made)?;
+        changes.push(Change {
+            key: *key,
+            number: numbers.of(key),
+            made,
+        })?;
     }
     Ok(changes)
 }
 
-/// Makes what is made of affected declarations, as `change_all` does, with the slots that are given next.
+/// Makes what is made of affected declarations, as `change_all` does.
 pub(crate) fn change_affected<'a>(
     alloc: Global,
-    decls: &'a Decls,
-    shelf: &'a Shelf,
+    numbers: Numbers<'a>,
     affected: &'a IndexSet<DeclKey>,
     postings: &mut Postings,
 ) -> Result<Vec<Change>, AllocError>
-    requires kept { (k : _) → contains same_key affected.now k ≡ false → made_in (stored shelf.now k) ≡ made_of decls.now k }
-    requires numbers { shelf.now.given + length affected.now.keys < 2 ^ 64 }
+    requires kept { (k : _) → contains same_key affected.now k ≡ false
+        → made_in (stored numbers.shelf.now k) ≡ made_of numbers.decls.now k }
+    requires slots { numbers.shelf.now.given + length affected.now.keys < 2 ^ 64 }
+    requires numbers { numbers.shelf.now.numbered + limit < 2 ^ 64 }
     ensures kept { Keeps postings.old postings.new }
-    ensures changes { IfOk result (λ changes. changes.items ≡ map (change_of decls.now) affected.now.keys) }
+    ensures changes { IfOk result (λ changes. changes.items
+        ≡ map (change_of numbers.entry.decls.now (number_by numbers.entry)) affected.now.keys) }
     ensures listed { IfOk result (λ changes. (w : _) (i : _) (k : _) → slice_get affected.now.keys i ≡ Some k
-        → has_word (made_of decls.now k) w ≡ true → is_listed postings.new w (shelf.now.given + i) ≡ true) }
+        → has_word (made_of numbers.entry.decls.now k) w ≡ true → is_listed postings.new w (numbers.entry.shelf.now.given + i) ≡ true) }
 {
-    let types = NextTypes::of(alloc, decls, shelf, affected)?;
-    change_all(alloc, &types, affected.as_slice(), shelf.given, postings)
+    let types = NextTypes::of(alloc, numbers.decls, numbers.shelf, affected)?;
+    change_all(alloc, &types, affected.as_slice(), numbers, postings)
 }
 
 fn is_of_kind(kind: Kind, key: &DeclKey) -> bool

@@ -26,8 +26,7 @@ use crate::prepare::{Next, prepare};
 use crate::replaced::install_turns;
 use crate::shelf::Shelf;
 use crate::under::{
-    Recorded, Sought, only_slot, positions_under, sought_at_positions, sought_at_slot,
-    words_observed,
+    Sought, only_slot, positions_under, sought_at_slot, sought_under, words_observed,
 };
 use cdi_effective::Effective;
 use cdi_model::{Decl, DeclKey, Decls, Kind, Name, Qual};
@@ -222,8 +221,7 @@ impl Index {
         if let Some(list) = self.sought_in_one(alloc, words, sought)? {
             return Ok(list);
         }
-        let positions = positions_under(&self.decls, &self.shelf, &self.postings, words);
-        sought_at_positions(alloc, self, sought, &positions)
+        sought_under(alloc, &self.shelf, &self.postings, words, sought)
     }
 
     /// The beans that have a type, enabled or not, in order. It takes memory for a list of them, and looks at the beans of
@@ -352,6 +350,7 @@ impl Index {
     {
         if let Some(next) = self.next.take() {
             self.shelf.given = next.first + next.changes.len() as u64;
+            self.shelf.numbered = next.numbered;
             install(
                 &mut self.shelf,
                 &mut self.postings,
@@ -362,14 +361,6 @@ impl Index {
             self.decls = next.decls;
             self.counts = next.counts;
         }
-    }
-}
-
-impl Recorded for Index {
-    ghost list = { λ i. i.decls };
-
-    fn records_at(&self, position: usize) -> &[Effective] {
-        Index::records_at(self, position)
     }
 }
 

@@ -8,7 +8,7 @@ ghost use Rattle.cdi_index.specs.Next.{applied, stored_as};
 
 use crate::affected::{word_of, word_of_replaced};
 use crate::change::Change;
-use crate::shelf::Shelf;
+use crate::shelf::{Kept, Shelf};
 use cdi_model::{DeclKey, Name};
 use cdi_postings::{Postings, Word};
 
@@ -49,20 +49,21 @@ fn install_one(shelf: &mut Shelf, postings: &mut Postings, slot: u64, change: Ch
     ensures stored { (k : _) → stored shelf.new k ≡ cond (same_key change.key k) (stored_as slot change) (stored shelf.old k) }
     ensures others { (s : _) (e : _) → kept_at shelf.new s ≡ Some e → (s ≡ slot) ⊎ (kept_at shelf.old s ≡ Some e) }
     ensures given { shelf.new.given ≡ shelf.old.given }
+    ensures numbered { shelf.new.numbered ≡ shelf.old.numbered }
     ensures replaced { shelf.new.replaced ≡ shelf.old.replaced }
     ensures slots { spare shelf.old.slots ≤ spare shelf.new.slots + 1 }
     ensures kept { spare shelf.old.kept ≤ spare shelf.new.kept + 1 }
     ensures listed { (w : _) (s : _) → option_map (λ m. m.0) (stored shelf.old change.key) ≢ Some s
         → is_listed postings.old w s ≡ true → is_listed postings.new w s ≡ true }
 {
-    let Change { key, made } = change;
+    let Change { key, number, made } = change;
     if let Some((old, before)) = shelf.take_out(&key) {
-        unlist_keys(postings, old, before.reads.as_slice());
-        unlist_classes(postings, old, before.replaces.as_slice());
-        unlist_each(postings, old, before.words.as_slice());
+        unlist_keys(postings, old, before.made.reads.as_slice());
+        unlist_classes(postings, old, before.made.replaces.as_slice());
+        unlist_each(postings, old, before.made.words.as_slice());
     }
     if let Some(made) = made {
-        shelf.put_in(&key, slot, made);
+        shelf.put_in(slot, Kept { key, number, made });
     }
 }
 
@@ -82,6 +83,7 @@ pub(crate) fn install(
     ensures shelf { IsShelf shelf.new }
     ensures free { IsFreeFrom (first + length changes.items) shelf.new }
     ensures given { shelf.new.given ≡ shelf.old.given }
+    ensures numbered { shelf.new.numbered ≡ shelf.old.numbered }
     ensures replaced { shelf.new.replaced ≡ shelf.old.replaced }
     ensures stored { (k : _) → stored shelf.new k ≡ applied first changes.items (stored shelf.old) k }
     ensures sound { IsSound (stored shelf.new) postings.new }

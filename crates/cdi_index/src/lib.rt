@@ -11,6 +11,7 @@ mod install;
 mod making;
 mod next_index;
 mod next_types;
+mod numbers;
 mod prepare;
 mod replaced;
 mod shelf;

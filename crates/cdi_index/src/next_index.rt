@@ -8,6 +8,7 @@ ghost use Rattle.cdi_effective.specs.Beans.{beans, entries};
 ghost use Rattle.cdi_effective.specs.Records.{records_in};
 ghost use Rattle.cdi_index.specs.Asked.{is_asked};
 ghost use Rattle.cdi_index.specs.Next.{IsAfter};
+ghost use Rattle.cdi_index.specs.Replaced.{keys_turned};
 ghost use Rattle.cdi_index.specs.Slots.{entry_kept, kept_of_one, unless_among};
 ghost use Rattle.cdi_index.specs.Under.{bindings_in, has_one, observes_one, records_at};
 
@@ -17,9 +18,9 @@ use crate::index::{first_bindings, own_records};
 use crate::prepare::Next;
 use crate::replaced::{made_after, records_turned};
 use crate::shelf::{Entry, Shelf, Slots};
-use crate::under::{Recorded, Sought, positions_under, sought_at_positions, words_observed};
+use crate::under::{Sought, positions_under, sought_under, words_observed};
 use cdi_effective::Effective;
-use cdi_model::{Decl, DeclKey, Decls, Kind, Name, Qual};
+use cdi_model::{Decl, DeclKey, Decls, Kind, Name, Qual, Seq};
 use cdi_positions::PositionSet;
 use cdi_postings::{Postings, Reason, Word};
 use indexmap::IndexSet;
@@ -31,12 +32,16 @@ use std::marker::Model;
 struct NextSlots<'a> {
     shelf: &'a Shelf,
     next: &'a Next,
+    ghost turned: { keys_turned next.now.turns.list.items ≡ next.now.turns.beans.keys },
 }
 
 impl Slots for NextSlots<'_> {
     ghost use Rattle.cdi_index.specs.Slots.{kept_next};
+    ghost use Rattle.cdi_index.specs.Replaced.{replaced_next};
 
     ghost kept = { λ n. kept_next n.shelf.now n.next.now };
+
+    ghost replaced = { λ n. replaced_next n.shelf.now n.next.now };
 
     fn at(&self, slot: u64) -> Option<Entry<'_>> {
         if slot < self.next.first {
@@ -48,6 +53,10 @@ impl Slots for NextSlots<'_> {
                 .as_slice()
                 .get((slot - self.next.first) as usize),
         )
+    }
+
+    fn records_replaced(&self, key: &DeclKey) -> Option<&Seq<Effective>> {
+        records_turned(self.shelf, &self.next.turns, key)
     }
 }
 
@@ -70,6 +79,7 @@ fn kept_anew(change: Option<&Change>) -> Option<Entry<'_>>
     let made = change.made.as_ref()?;
     Some(Entry {
         key: &change.key,
+        number: change.number,
         made,
     })
 }
@@ -78,29 +88,21 @@ fn kept_anew(change: Option<&Change>) -> Option<Entry<'_>>
 #[derive(Drop)]
 pub struct NextIndex<'a> {
     alloc: Global,
-    shelf: &'a Shelf,
+    slots: NextSlots<'a>,
     postings: &'a Postings,
-    next: &'a Next,
 }
 
 impl<'a> Model for NextIndex<'a> {
     ghost use Rattle.std.specs.Prelude.{List};
     ghost use Rattle.cdi_model.specs.declared.decl.Decl.{Decl};
     ghost use Rattle.cdi_index.specs.Next.{IsAfter};
+    ghost use Rattle.cdi_index.specs.Replaced.{keys_turned};
 
     ghost Value = { List Decl };
 
-    ghost view = { λ n. n.next.now.decls };
+    ghost view = { λ n. n.slots.next.now.decls };
 
-    ghost invariant = { λ n. IsAfter n.shelf.now n.postings.now n.next.now };
-}
-
-impl Recorded for NextIndex<'_> {
-    ghost list = { λ n. n };
-
-    fn records_at(&self, position: usize) -> &[Effective] {
-        NextIndex::records_at(self, position)
-    }
+    ghost invariant = { λ n. IsAfter n.slots.shelf.now n.postings.now n.slots.next.now };
 }
 
 impl<'a> NextIndex<'a> {
@@ -115,9 +117,8 @@ impl<'a> NextIndex<'a> {
     {
         NextIndex {
             alloc,
-            shelf,
+            slots: NextSlots { shelf, next },
             postings,
-            next,
         }
     }
 
@@ -126,7 +127,7 @@ impl<'a> NextIndex<'a> {
         ensures value { result.now ≡ self.now }
         ensures distinct { AreDistinct self.now }
     {
-        &self.next.decls
+        &self.slots.next.decls
     }
 
     /// The records of the bean declaration of a class: its managed bean, and after it its products in order. None where
@@ -138,12 +139,13 @@ impl<'a> NextIndex<'a> {
             kind: Kind::Bean,
             name: *class,
         };
-        match records_turned(self.shelf, &self.next.turns, &key) {
+        let next = self.slots.next;
+        match records_turned(self.slots.shelf, &next.turns, &key) {
             Some(records) => records.as_slice(),
             None => own_records(made_after(
-                self.shelf,
-                &self.next.affected,
-                self.next.changes.as_slice(),
+                self.slots.shelf,
+                &next.affected,
+                next.changes.as_slice(),
                 &key,
             )),
         }
@@ -162,22 +164,20 @@ impl<'a> NextIndex<'a> {
         ensures { result ≡ is_asked self.now asked.entry.question asked.entry.name.now asked.entry.uses.now }
     {
         let slots = self.postings.under(asked.word());
-        let shelved = NextSlots {
-            shelf: self.shelf,
-            next: self.next,
-        };
-        is_asked_at(self.alloc, &self.next.decls, &shelved, slots, asked)
+        is_asked_at(
+            self.alloc,
+            &self.slots.next.decls,
+            &self.slots,
+            slots,
+            asked,
+        )
     }
 
     /// The positions of the declarations that have one of some words. It takes no memory, and looks at these alone.
     pub fn positions_under(&self, words: &[Word]) -> PositionSet
         ensures { (p : _) → is_marked result p ≡ option_map_or (has_one self.now words.now) (slice_get self.now p) false }
     {
-        let shelved = NextSlots {
-            shelf: self.shelf,
-            next: self.next,
-        };
-        positions_under(&self.next.decls, &shelved, self.postings, words)
+        positions_under(&self.slots.next.decls, &self.slots, self.postings, words)
     }
 
     /// The beans that have a type, enabled or not, in order. It takes memory for a list of them, and looks at the beans of
@@ -193,8 +193,13 @@ impl<'a> NextIndex<'a> {
             reason: Reason::HasType,
             name: *bean_type,
         };
-        let positions = self.positions_under(&[word]);
-        sought_at_positions(alloc, self, Sought::OfType(bean_type), &positions)
+        sought_under(
+            alloc,
+            &self.slots,
+            self.postings,
+            &[word],
+            Sought::OfType(bean_type),
+        )
     }
 
     /// The beans of the declarations of which an observer method observes one of some types, in order. It takes memory for
@@ -208,15 +213,14 @@ impl<'a> NextIndex<'a> {
             ≡ flat_map (entries self.now) (filter (observes_one types.now) self.now)) }
     {
         let words = words_observed(alloc, types)?;
-        let positions = self.positions_under(&words);
-        sought_at_positions(alloc, self, Sought::Each, &positions)
+        sought_under(alloc, &self.slots, self.postings, &words, Sought::Each)
     }
 
     /// The records of the declaration at a position: none where it is no bean declaration. It takes no memory.
     pub fn records_at(&self, position: usize) -> &'a [Effective]
         ensures { result.now ≡ records_at self.now position }
     {
-        match self.next.decls.at(position) {
+        match self.slots.next.decls.at(position) {
             Some(Decl::Bean(bean)) => self.records(&bean.name),
             _ => &[],
         }

@@ -5,6 +5,7 @@ ghost use Rattle.cdi_model.specs.DeclList.{AreDistinct};
 ghost use Rattle.cdi_index.specs.Counted.{counted, raised};
 ghost use Rattle.cdi_index.specs.Kept.{stored, Keeps, IsExact, IsFreeFrom, IsShelf, IsSound};
 ghost use Rattle.cdi_index.specs.Next.{is_made, IsNext};
+ghost use Rattle.cdi_index.specs.Numbers.{AreNumbered};
 ghost use Rattle.cdi_index.specs.Replaced.{AreReplaced};
 ghost use Rattle.cdi_index.specs.State.{IsEdited};
 ghost use Rattle.cdi_index.specs.Told.{Tells};
@@ -15,6 +16,7 @@ use crate::affected::affected_by;
 use crate::change::{Change, change_affected, count_made};
 use crate::counts::Counts;
 use crate::draft::Draft;
+use crate::numbers::{Numbers, staying};
 use crate::replaced::{Turns, turn_all};
 use crate::shelf::Shelf;
 use cdi_model::{DeclKey, Decls, Kind};
@@ -28,6 +30,8 @@ pub(crate) struct Next {
     pub(crate) decls: Decls,
     /// The slot of the first change. Those of the others follow.
     pub(crate) first: u64,
+    /// No declaration has this number or a later one.
+    pub(crate) numbered: u64,
     /// The declarations that the changes are of, in the same order.
     pub(crate) affected: IndexSet<DeclKey>,
     pub(crate) changes: Vec<Change>,
@@ -66,10 +70,12 @@ pub(crate) fn prepare(
     requires free { IsFreeFrom shelf.old.given shelf.old }
     requires exact { IsExact decls.now (stored shelf.old) }
     requires sound { IsSound (stored shelf.old) postings.old }
+    requires ordered { AreNumbered decls.now shelf.old.numbered (stored shelf.old) }
     requires replaced { AreReplaced decls.now (get same_key shelf.old.replaced) }
     ensures slots { shelf.new.slots.entries ≡ shelf.old.slots.entries }
     ensures kept { shelf.new.kept.entries ≡ shelf.old.kept.entries }
     ensures given { shelf.new.given ≡ shelf.old.given }
+    ensures numbered { shelf.new.numbered ≡ shelf.old.numbered }
     ensures replaced { shelf.new.replaced.entries ≡ shelf.old.replaced.entries }
     ensures keeps { Keeps postings.old postings.new }
     ensures decls { IfOk result (λ next. next.decls ≡ draft.decls) }
@@ -81,13 +87,19 @@ pub(crate) fn prepare(
     let _ = draft.decls.iter();
     let affected = affected_by(alloc, shelf, postings, draft.keys.as_slice())?;
     shelf.reserve(affected.len())?;
-    let changes = change_affected(alloc, &draft.decls, shelf, &affected, postings)?;
+    let numbers = Numbers {
+        decls: &draft.decls,
+        shelf,
+        staying: staying(&draft.decls, draft.keys.as_slice()),
+    };
+    let changes = change_affected(alloc, numbers, &affected, postings)?;
     let turns = turn_all(alloc, shelf, postings, &affected, changes.as_slice())?;
     shelf.replaced.reserve(turns.list.len())?;
     Ok(Next {
         counts: counts.after(changes.as_slice()),
-        decls: draft.decls,
         first: shelf.given,
+        numbered: shelf.numbered + draft.decls.len() as u64,
+        decls: draft.decls,
         affected,
         changes,
         turns,

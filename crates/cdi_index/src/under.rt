@@ -1,22 +1,20 @@
 //! The declarations that are under words, and the beans that are found by these.
-ghost use Rattle.std.specs.Prelude.{◌≡◌, ◌<◌, ◌||◌, ◌++◌, ℕ, Bool, List, filter, flat_map, length, map, option_map, IfOk, IfSome, OnOk};
-ghost use Rattle.std.specs.List.{list_any};
-ghost use Rattle.std.specs.Option.{option_copied};
+ghost use Rattle.std.specs.Prelude.{◌≡◌, ◌<◌, ◌||◌, ◌++◌, ℕ, List, Some, filter, flat_map, length, map, option_map, IfOk, IfSome, OnOk};
 ghost use Rattle.cdi_model.specs.DeclList.{limit};
-ghost use Rattle.cdi_positions.specs.Marks.{is_marked, marked_from};
-ghost use Rattle.cdi_model.specs.declared.decl.Decl.{Decl};
+ghost use Rattle.cdi_positions.specs.Marks.{is_marked};
 ghost use Rattle.cdi_index.specs.Made.{words_have};
 ghost use Rattle.cdi_index.specs.Slots.{entry_kept};
-ghost use Rattle.cdi_index.specs.Kept.{kept_at};
+ghost use Rattle.cdi_index.specs.declared.shelf.Kept.{Kept as AnyKept};
 ghost use Rattle.cdi_postings.specs.Listing.{under};
 ghost use Rattle.cdi_postings.specs.Words.{word_at};
 ghost use Rattle.cdi_postings.specs.declared.word.Word.{Word as AnyWord};
 ghost use Rattle.cdi_postings.specs.declared.word.Reason.TheVariants as reasons;
-ghost use Rattle.cdi_index.specs.Under.{has_name, is_sought, is_at_slots, is_at_words, position_under, records_at, records_kept};
+ghost use Rattle.cdi_index.specs.InOrder.{kept_under, kept_with, records_kept, with_word, AreInOrder, AreSought};
+ghost use Rattle.cdi_index.specs.Under.{has_name, is_sought, is_at_slots, is_at_words, position_under};
 
 use crate::index::own_records;
 use crate::making::{Made, serves_as_alternative};
-use crate::shelf::{Entry, Kept, Shelf, Slots};
+use crate::shelf::{Entry, Slots};
 use cdi_effective::Effective;
 use cdi_model::{Decls, Name};
 use cdi_positions::PositionSet;
@@ -132,8 +130,8 @@ fn push_sought<'a>(
 
 /// The only slot that is listed under some words, and its word. None where no slot or several are listed.
 pub(crate) fn only_slot(postings: &Postings, words: &[Word]) -> Option<(Word, u64)>
-    ensures { IfSome result (λ only. (test : AnyWord → ℕ → Bool)
-        → list_any (λ w. list_any (test w) (under postings.now w)) words.now ≡ test only.0 only.1) }
+    ensures { IfSome result (λ only. (f : AnyWord → ℕ → List AnyKept)
+        → flat_map (λ w. flat_map (f w) (under postings.now w)) words.now ≡ f only.0 only.1) }
 {
     let mut only = None;
     for word in words {
@@ -146,65 +144,109 @@ pub(crate) fn only_slot(postings: &Postings, words: &[Word]) -> Option<(Word, u6
     only
 }
 
-/// The records of the bean of which this is kept, where it has a word.
-fn records_kept<'a>(shelf: &'a Shelf, kept: Option<&'a Kept>, word: &Word) -> &'a [Effective]
-    ensures { result.now ≡ records_kept shelf.now word.now (option_copied kept.entry) }
+/// Appends what is kept, where it has a word.
+fn push_with_word<'a>(
+    kept: Option<Entry<'a>>,
+    word: &Word,
+    list: &mut Vec<Entry<'a>>,
+) -> Result<(), AllocError>
+    ensures { OnOk result (map entry_kept list.new.items
+        ≡ map entry_kept list.old.items ++ with_word word.now (option_map entry_kept kept.entry)) }
 {
-    let Some(kept) = kept else {
-        return &[];
-    };
-    if !has_word(&kept.made, word) {
-        return &[];
+    if let Some(entry) = kept {
+        if has_word(entry.made, word) {
+            list.push(entry)?;
+        }
     }
-    match shelf.replaced.get(&kept.key) {
+    Ok(())
+}
+
+/// Appends what is kept at some slots and has a word.
+fn push_slots<'a, S: Slots>(
+    shelved: &'a S,
+    slots: &[u64],
+    word: &Word,
+    list: &mut Vec<Entry<'a>>,
+) -> Result<(), AllocError>
+    ensures { OnOk result (map entry_kept list.new.items
+        ≡ map entry_kept list.old.items ++ flat_map (kept_with (S.kept shelved.now) word.now) slots.now) }
+{
+    for slot in slots {
+        push_with_word(shelved.at(*slot), word, list)?;
+    }
+    Ok(())
+}
+
+/// What is kept that is listed under some words, and has one of them. It may be there several times.
+fn listed_under<'a, S: Slots>(
+    alloc: Global,
+    shelved: &'a S,
+    postings: &Postings,
+    words: &[Word],
+) -> Result<Vec<Entry<'a>>, AllocError>
+    ensures { IfOk result (λ list. map entry_kept list.items ≡ kept_under (S.kept shelved.now) postings.now words.now) }
+{
+    let mut list = Vec::new(alloc);
+    for word in words {
+        push_slots(shelved, postings.under(*word), word, &mut list)?;
+    }
+    Ok(list)
+}
+
+/// What is kept, by its number, and each number once.
+fn in_order(mut list: Vec<Entry<'_>>) -> Vec<Entry<'_>>
+    ensures { AreInOrder (map entry_kept list.entry.items) (map entry_kept result.items) }
+{
+    list.sort_unstable_by_key(|entry| entry.number);
+    list.dedup_by_key(|entry| entry.number);
+    list
+}
+
+/// The records of the bean of which this is kept.
+fn records_of<'a, S: Slots>(shelved: &'a S, kept: Entry<'a>) -> &'a [Effective]
+    ensures { result.now ≡ records_kept (S.replaced shelved.now) (entry_kept kept.entry) }
+{
+    match shelved.records_replaced(kept.key) {
         Some(records) => records.as_slice(),
-        None => own_records(Some(&kept.made)),
+        None => own_records(Some(kept.made)),
     }
 }
 
 /// Those of the records of the declaration at a slot that are sought, where it has a word.
-pub(crate) fn sought_at_slot<'a>(
+pub(crate) fn sought_at_slot<'a, S: Slots>(
     alloc: Global,
-    shelf: &'a Shelf,
+    shelved: &'a S,
     sought: Sought<'_>,
     word: &Word,
     slot: u64,
 ) -> Result<Vec<&'a Effective>, AllocError>
     ensures { IfOk result (λ list. map (λ bean. bean.now) list.items
-        ≡ filter (is_sought sought.entry) (records_kept shelf.now word.now (kept_at shelf.now slot))) }
+        ≡ filter (is_sought sought.entry) (flat_map (records_kept (S.replaced shelved.now)) (kept_with (S.kept shelved.now) word.now slot))) }
 {
     let mut list = Vec::new(alloc);
-    push_sought(
-        sought,
-        records_kept(shelf, shelf.kept.get(&slot), word),
-        &mut list,
-    )?;
+    if let Some(entry) = shelved.at(slot) {
+        if has_word(entry.made, word) {
+            push_sought(sought, records_of(shelved, entry), &mut list)?;
+        }
+    }
     Ok(list)
 }
 
-/// The declarations before the next commit or after it, with the records of each.
-pub(crate) trait Recorded {
-    /// The declarations.
-    ghost list: { Self → List Decl };
-
-    /// The records of the declaration at a position. It takes no memory.
-    fn records_at(&self, position: usize) -> &[Effective]
-        ensures { result.now ≡ records_at (list self.now) position };
-}
-
-/// Those of the records of the declarations at some positions that are sought, in order.
-pub(crate) fn sought_at_positions<'a, R: Recorded>(
+/// Those of the records of the declarations that are listed under some words which are sought, in order.
+pub(crate) fn sought_under<'a, S: Slots>(
     alloc: Global,
-    index: &'a R,
+    shelved: &'a S,
+    postings: &Postings,
+    words: &[Word],
     sought: Sought<'_>,
-    positions: &PositionSet,
 ) -> Result<Vec<&'a Effective>, AllocError>
-    ensures { IfOk result (λ list. map (λ bean. bean.now) list.items
-        ≡ filter (is_sought sought.entry) (flat_map (records_at (R.list index.now)) (marked_from 0 positions.now))) }
+    ensures { IfOk result (λ list. AreSought (S.kept shelved.now) (S.replaced shelved.now) postings.now words.now sought.entry
+        (map (λ bean. bean.now) list.items)) }
 {
+    let entries = in_order(listed_under(alloc, shelved, postings, words)?);
     let mut list = Vec::new(alloc);
-    for position in positions.iter() {
-        push_sought(sought, index.records_at(position), &mut list)?;
+    for entry in entries.as_slice() {
+        push_sought(sought, records_of(shelved, *entry), &mut list)?;
     }
     Ok(list)
 }

@@ -20,6 +20,7 @@ left-preserved c =
     record {
       shelf = c.install_one.ensures.shelf;
       given = c.install_one.ensures.given ∙ c.left.invariant.given;
+      numbered = c.install_one.ensures.numbered ∙ c.left.invariant.numbered;
       replaced = c.install_one.ensures.replaced ∙ c.left.invariant.replaced;
       fewer = omega (arith, many, c.left.invariant.fewer);
       slots = omega (arith, many, c.left.invariant.slots, c.install_one.ensures.slots);

@@ -6,6 +6,7 @@ abbrev pub invariant-left : goal.invariant-left
 invariant-left l = record {
   shelf : IsShelf l.shelf;
   given : l.shelf.given ≡ l.fn.shelf.given;
+  numbered : l.shelf.numbered ≡ l.fn.shelf.numbered;
   replaced : l.shelf.replaced ≡ l.fn.shelf.replaced;
   fewer : length l.changes.items ≤ length l.fn.changes.items;
   slots : length l.changes.items ≤ spare l.shelf.slots;

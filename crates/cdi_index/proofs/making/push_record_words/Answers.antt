@@ -1,4 +1,4 @@
-use Rattle.cdi_index.proofs.Common.{◌≡◌, ◌∷◌, List, map, ap, ◌∙◌, ◌++◌, option_to_list, Word, word_at, words_of_uses, name_of_use}
+use Rattle.cdi_index.proofs.Common.{List, map, ap, ◌∙◌, ◌++◌, option_to_list, Word, word_at, words_of_uses}
 use Rattle.std.proofs.lemmas.List.{append_assoc}
 use Rattle.cdi_postings.specs.declared.word.Reason.TheVariants as reasons
 use Rattle.cdi_index.specs.Made.{words_as_alternative, words_of_bindings}

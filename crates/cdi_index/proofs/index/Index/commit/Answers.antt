@@ -1,4 +1,4 @@
-use Rattle.cdi_index.proofs.Common.{sym, ap, ◌∙◌, same_key, made_in, arith, turned, subst, get, IsNext}
+use Rattle.cdi_index.proofs.Common.{sym, ap, ◌∙◌, same_key, made_in, arith, turned, subst, get, key_of, IsNext}
 use Rattle.cdi_index.specs.State.{MayBeNext}
 use Rattle.cdi_index.proofs.index.Index.commit.Goals as goal
 
@@ -14,6 +14,12 @@ invariant_of-self c =
       free = λ s e at. omega (arith, c.install.ensures.free s e at, c.install.ensures.given, c.len.ensures, next.changes.ok.0);
       exact = λ k. ap made_in (c.install.ensures.stored k) ∙ prepared.exact k;
       sound = c.install.ensures.sound;
+      numbered = record {
+        rise = λ p q d e x y less at further first second.
+            prepared.numbered.rise p q d e x y less at further (sym (c.install.ensures.stored (key_of d)) ∙ first)
+            (sym (c.install.ensures.stored (key_of e)) ∙ second);
+        below = λ k x at. omega (arith, prepared.numbered.below k x (sym (c.install.ensures.stored k) ∙ at), c.install.ensures.numbered);
+      };
       replaced = λ k. c.install_turns.ensures k
           ∙ ap (λ m. turned next.turns.list.items (get same_key m) k) c.install.ensures.replaced ∙ prepared.turned k;
       staged = subst (MayBeNext _ c.install.new.postings) (sym c.in-Some.ensures.after) tt;

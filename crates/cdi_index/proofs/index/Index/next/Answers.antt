@@ -14,6 +14,7 @@ new-requires c =
       exact = it.exact;
       sound = it.sound;
       at = next-at shelf next.first next.changes.items next.affected.keys c.self.invariant.shelved it.free it.affected it.once;
+      numbered = it.numbered;
       affected = it.affected;
       turned = it.turned;
       beans = it.beans;

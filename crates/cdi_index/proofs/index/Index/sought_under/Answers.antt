@@ -1,23 +1,23 @@
-use Rattle.cdi_index.proofs.Common.{◌≡◌, List, map, sym, ap, ◌∙◌, Effective, flat_map, kept_at, stored, filter, beans_under, records_at}
-use Rattle.cdi_index.proofs.Common.{marked_from, IfOk-weaker, State, is_sought}
+use Rattle.cdi_index.proofs.Common.{◌≡◌, List, map, ap, ◌∙◌, Effective, kept_at, stored, filter, beans_under, IfOk-weaker, State, is_sought}
+use Rattle.cdi_index.proofs.Common.{get, same_key}
 use Rattle.cdi_index.proofs.KeptAtLemmas.{shelf-at}
-use Rattle.cdi_index.proofs.UnderLemmas.{marked-are, walked}
+use Rattle.cdi_index.proofs.InOrderLemmas.{under-words}
+use Rattle.cdi_index.specs.InOrder.{AreSought}
 use Rattle.cdi_index.proofs.index.Index.sought_under.Goals as goal
 
 pub returns : goal.returns
 returns c =
     let ds = c.self.inside.decls in
+    let shelf = c.self.inside.shelf in
     let words = c.args.words.now in
-    let marks = c.positions_under-positions.result in
+    let it = c.self.invariant in
     let found : List Effective → List Effective = filter (is_sought c.args.sought) in
-    IfOk-weaker c.sought_at_positions.result
-    (λ list. map (λ bean. bean.now) list.items ≡ found (flat_map (records_at c.args.self.now.decls) (marked_from 0 marks)))
+    IfOk-weaker c.sought_under.result
+    (λ list. AreSought (kept_at shelf) (get same_key shelf.replaced) c.self.inside.postings words c.args.sought
+    (map (λ bean. bean.now) list.items))
     (λ list. map (λ bean. bean.now) list.items ≡ found (beans_under c.args.self.now.decls words))
-    (λ list are. are
-    ∙ ap (λ (s : State). found (flat_map (records_at s.decls) (marked_from 0 marks))) (sym c.self.view_is)
-    ∙ ap found (walked ds words marks
-    (λ p. c.positions_under-positions.ensures p
-    ∙ marked-are ds (stored c.self.inside.shelf) (kept_at c.self.inside.shelf) c.self.inside.postings
-    (shelf-at c.self.inside.shelf c.self.invariant.shelved) c.self.invariant.exact c.self.invariant.sound c.self.invariant.distinct words p))
+    (λ list is. is.are
+    ∙ ap found (under-words ds shelf.numbered (stored shelf) (kept_at shelf) c.self.inside.postings (shelf-at shelf it.shelved) it.exact
+    it.sound it.distinct it.numbered words is.ordered is.in_order (get same_key shelf.replaced) it.replaced)
     ∙ ap (λ (s : State). found (beans_under s.decls words)) c.self.view_is)
-    c.sought_at_positions.ensures
+    c.sought_under.ensures

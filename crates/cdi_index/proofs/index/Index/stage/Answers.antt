@@ -1,8 +1,8 @@
-use Rattle.cdi_index.proofs.Common.{None, ap, ◌∙◌, same_key, false≢true, arith, lookup, Result, Ok, Err, OnOk, State}
+use Rattle.cdi_index.proofs.Common.{None, sym, ap, ◌∙◌, subst, stored, same_key, false≢true, arith, lookup, Result, Ok, Err, OnOk, State}
 use Rattle.std.specs.Result.{IsErr}
 use Rattle.base_options.proofs.Results.{OnErr-from}
-use Rattle.cdi_index.proofs.NextLemmas.{exact-same, free-same, shelf-same, sound-same}
-use Rattle.cdi_index.specs.State.{with_staged}
+use Rattle.cdi_index.proofs.NextLemmas.{exact-same, free-same, numbered-same, shelf-same, sound-same}
+use Rattle.cdi_index.specs.{Numbers.AreNumbered, State.with_staged}
 use Rattle.cdi_index.proofs.index.Index.stage.Goals as goal
 
 on-ok : {T E : Type 0} (r : Result T E) (P : Type 0) → IsErr r → OnOk r P
@@ -24,6 +24,8 @@ invariant_of-self c =
       exact = exact-same old new c.prepare.ensures.slots c.prepare.ensures.kept c.self.inside.decls c.self.invariant.exact;
       sound = sound-same old new c.prepare.ensures.slots c.prepare.ensures.kept c.self.inside.postings c.prepare.new.postings
           c.prepare.ensures.keeps c.self.invariant.sound;
+      numbered = subst (λ n. AreNumbered c.self.inside.decls n (stored new)) (sym c.prepare.ensures.numbered)
+          (numbered-same old new c.prepare.ensures.slots c.prepare.ensures.kept c.self.inside.decls old.numbered c.self.invariant.numbered);
       replaced = λ k. ap (lookup (same_key k)) c.prepare.ensures.replaced ∙ c.self.invariant.replaced k;
       staged = tt;
     }
@@ -43,6 +45,8 @@ invariant_of-self-in_err-told c =
       exact = exact-same old new c.prepare.ensures.slots c.prepare.ensures.kept c.self.inside.decls c.self.invariant.exact;
       sound = sound-same old new c.prepare.ensures.slots c.prepare.ensures.kept c.self.inside.postings c.prepare.new.postings
           c.prepare.ensures.keeps c.self.invariant.sound;
+      numbered = subst (λ n. AreNumbered c.self.inside.decls n (stored new)) (sym c.prepare.ensures.numbered)
+          (numbered-same old new c.prepare.ensures.slots c.prepare.ensures.kept c.self.inside.decls old.numbered c.self.invariant.numbered);
       replaced = λ k. ap (lookup (same_key k)) c.prepare.ensures.replaced ∙ c.self.invariant.replaced k;
       staged = tt;
     }
@@ -62,6 +66,8 @@ invariant_of-self-2 c =
       exact = exact-same old new c.prepare.ensures.slots c.prepare.ensures.kept c.self.inside.decls c.self.invariant.exact;
       sound = sound-same old new c.prepare.ensures.slots c.prepare.ensures.kept c.self.inside.postings c.prepare.new.postings
           c.prepare.ensures.keeps c.self.invariant.sound;
+      numbered = subst (λ n. AreNumbered c.self.inside.decls n (stored new)) (sym c.prepare.ensures.numbered)
+          (numbered-same old new c.prepare.ensures.slots c.prepare.ensures.kept c.self.inside.decls old.numbered c.self.invariant.numbered);
       replaced = λ k. ap (lookup (same_key k)) c.prepare.ensures.replaced ∙ c.self.invariant.replaced k;
       staged = c.in_ok-next.ensures.next;
     }

@@ -6,8 +6,8 @@ use Rattle.cdi_index.proofs.next_index.NextIndex.is_asked.Goals as goal
 pub returns : goal.returns
 returns c =
     let asked : Asked = c.args.asked in
-    let next = c.self.inside.next.now in
-    let shelf = c.self.inside.shelf.now in
+    let next = c.self.inside.slots.next.now in
+    let shelf = c.self.inside.slots.shelf.now in
     let listings = c.self.inside.postings.now in
     let it = c.self.invariant in
     c.is_asked_at.ensures

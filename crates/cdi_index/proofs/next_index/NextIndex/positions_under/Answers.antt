@@ -5,8 +5,8 @@ use Rattle.cdi_index.proofs.next_index.NextIndex.positions_under.Goals as goal
 
 pub returns : goal.returns
 returns c p =
-    let next = c.self.inside.next.now in
-    let shelf = c.self.inside.shelf.now in
+    let next = c.self.inside.slots.next.now in
+    let shelf = c.self.inside.slots.shelf.now in
     let it = c.self.invariant in
     c.positions_under.ensures p
     ∙ marked-are next.decls (applied next.first next.changes.items (stored shelf)) (kept_next shelf next) c.self.inside.postings.now

@@ -10,7 +10,7 @@ made_after-requires c = ap keys_changed c.as_slice-in-None.ensures.value ∙ c.s
 
 pub returns-in-Some : goal.returns-in-Some
 returns-in-Some c =
-    let next = c.self.inside.next.now in
+    let next = c.self.inside.slots.next.now in
     let key = key_at kinds.Bean c.args.class.now in
     c.as_slice.ensures
     ∙ lent-of next.decls c.args.class.now (Some c.in-Some.records.now) (made_of next.decls key)
@@ -19,8 +19,8 @@ returns-in-Some c =
 
 pub returns-in-None : goal.returns-in-None
 returns-in-None c =
-    let next = c.self.inside.next.now in
-    let shelf = c.self.inside.shelf.now in
+    let next = c.self.inside.slots.next.now in
+    let shelf = c.self.inside.slots.shelf.now in
     let key = key_at kinds.Bean c.args.class.now in
     c.own_records.ensures
     ∙ ap (lent None)

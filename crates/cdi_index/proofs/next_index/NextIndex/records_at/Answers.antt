@@ -4,7 +4,7 @@ use Rattle.cdi_index.proofs.next_index.NextIndex.records_at.Goals as goal
 
 pub returns-in-Some-Bean : goal.returns-in-Some-Bean
 returns-in-Some-Bean c =
-    let ds = c.self.inside.next.now.decls in
+    let ds = c.self.inside.slots.next.now.decls in
     c.records.ensures
     ∙ ap (λ (d : List Decl). records_in d c.in-Some-Bean.bean.name) (sym c.self.view_is)
     ∙ records-of-bean ds c.args.position c.in-Some-Bean.bean c.self.invariant.distinct

@@ -9,15 +9,15 @@ returns-clause-shelf c =
     let put = (on-ok c.insert.result (c.insert.ensures.succeeds c.requires.slots) c.insert.ensures.updates).0 in
     let kept = (on-ok c.insert-2.result (c.insert-2.ensures.succeeds c.requires.kept) c.insert-2.ensures.updates).0 in
     record {
-      owns = put-owns f (get same_key c.insert.new.self) g (get nat_eq c.insert-2.new.self) c.args.key.now c.args.slot c.args.made
+      owns = put-owns f (get same_key c.insert.new.self) g (get nat_eq c.insert-2.new.self) c.args.slot c.args.kept
           c.requires.shelf.owns c.requires.shelf.owned c.requires.absent c.requires.free put kept;
-      owned = put-owned f (get same_key c.insert.new.self) g (get nat_eq c.insert-2.new.self) c.args.key.now c.args.slot c.args.made
+      owned = put-owned f (get same_key c.insert.new.self) g (get nat_eq c.insert-2.new.self) c.args.slot c.args.kept
           c.requires.shelf.owns c.requires.shelf.owned c.requires.absent c.requires.free put kept;
     }
 
 pub returns-clause-stored : goal.returns-clause-stored
 returns-clause-stored c =
     put-stored (get same_key c.args.self.now.slots) (get same_key c.insert.new.self) (get nat_eq c.args.self.now.kept)
-    (get nat_eq c.insert-2.new.self) c.args.key.now c.args.slot c.args.made c.requires.shelf.owns c.requires.shelf.owned c.requires.absent
+    (get nat_eq c.insert-2.new.self) c.args.slot c.args.kept c.requires.shelf.owns c.requires.shelf.owned c.requires.absent
     c.requires.free (on-ok c.insert.result (c.insert.ensures.succeeds c.requires.slots) c.insert.ensures.updates).0
     (on-ok c.insert-2.result (c.insert-2.ensures.succeeds c.requires.kept) c.insert-2.ensures.updates).0
