@@ -150,19 +150,14 @@ def ambiguous_points(number):
 
 
 def dependent_points(number):
-    """Interceptors with 32 points of dependent beans, around so many of these."""
+    """So many interceptors with 32 points of dependent beans each, around as many other dependent beans."""
     texts = [declared("binding", "B")]
     for index in range(number):
         points = [point(f"p{k}", f"D{(index + k) % number}") for k in range(MOST)]
         lines = ["priority = 1", 'bindings = ["B"]', tables("points", points), 'pre = { body = "pass" }']
         texts.append(declared("interceptor", f"I{index}", *lines))
-    return "".join(texts) + "".join(typed(f"D{k}") for k in range(number)), [declared("type", "X")]
-
-
-def bound_dependent_points(number):
-    """The same, where the interceptors are around other beans than those of their points."""
-    text, edits = dependent_points(number)
-    return text + "".join(typed(f"C{k}", None, 'bindings = ["B"]') for k in range(number)), edits
+    beans = "".join(typed(f"D{k}") + typed(f"C{k}", None, 'bindings = ["B"]') for k in range(number))
+    return "".join(texts) + beans, [declared("type", "X")]
 
 
 def intercepted_places(number):

@@ -2,7 +2,7 @@
 pub use Rattle.std.proofs.Common.{◌≡◌, List, ◌++◌, sym, ap, ◌∙◌, append_assoc, ◌<◌, ℕ, [], ◌∷◌, length, arith, ◌+◌, get_or, drop, Bool}
 pub use Rattle.std.proofs.Common.{true, false, cond, map, filter, refl, AllPairs, not, ◌&&◌, subst, zero, suc, Some, ◌⊎◌, inl, inr}
 pub use Rattle.std.proofs.Common.{append-nil, nat_le, ◌==◌, Ordering, Less, Equal, ◌||◌, Option, None, fold, take, ⊎_elim, is_some, nat_eq}
-pub use Rattle.std.proofs.Common.{Greater, ◌≢◌, Vec, Global, option_map, ◌≤◌}
+pub use Rattle.std.proofs.Common.{Greater, ◌≢◌, Vec, Global, ◌≤◌}
 pub use Rattle.std.specs.List.{flat_map, AllByRecursion, find, slice_get, list_any, starts_with, list_all, AllZip}
 pub use Rattle.std.proofs.lemmas.List.{nil_from_length, at_drop_more, length-append, map-append, take_more, drop_all, take_all}
 pub use Rattle.std.proofs.lemmas.Bool.{eqb-true, false≢true, or_left, and_parts, or_cases, or_right, or_parts, eq-eqb, le-leb, leb-true}
@@ -20,28 +20,28 @@ pub use Rattle.base_numbers.proofs.Texts.{same_text, one_text, other_text}
 pub use Rattle.cdi_model.specs.{declared.decl.Decl.Decl, declared.decl.BeanDecl.BeanDecl, Bytes.dot, Bytes.slash, Bytes.byte_order}
 pub use Rattle.cdi_model.specs.{Decl.name_of_decl, Decl.kind_of, Decl.key_of, declared.decl.InterceptorDecl.InterceptorDecl}
 pub use Rattle.cdi_model.specs.{declared.decl.PointDecl.PointDecl, declared.place.BeanPlace.BeanPlace, Mentions.Mention, Mentions.PointOf}
-pub use Rattle.cdi_model.specs.{declared.key.DeclKey.DeclKey, declared.quals.Qual.Qual, Quals.name_of_use, DeclKey.same_key}
+pub use Rattle.cdi_model.specs.{declared.key.DeclKey.DeclKey, declared.quals.Qual.Qual, DeclKey.same_key}
 pub use Rattle.cdi_model.specs.DeclList.{AreDistinct, find_decl, is_of, limit}
 pub use Rattle.cdi_model.specs.Grammar.{begins, is_letter, is_name, is_word, continues}
 unfoldable pub use Rattle.cdi_model.specs.Mentions.{mentions}
 pub use Rattle.cdi_model.proofs.QualLemmas.{same_name}
 pub use Rattle.cdi_bodies.specs.Book.{Promised}
-pub use Rattle.cdi_match.specs.{Chain.has, Chain.Circle, Chain.leads, Chain.Steps, Order.in_order, Bindings.uses_in}
+pub use Rattle.cdi_match.specs.{Chain.has, Chain.Circle, Chain.leads, Chain.Steps, Order.in_order}
 pub use Rattle.cdi_match.proofs.Names.{at_name, has-by_order}
 pub use Rattle.cdi_match.proofs.OrderLemmas.{in_order-has, in_order-rises, one_order}
 unfoldable pub use Rattle.cdi_effective.specs.{Records.records_in, Beans.effective, Beans.beans}
 pub use Rattle.cdi_effective.specs.{Specialized.chain, Specialized.class_names, BeanText.text_of_id, Disposers.as_bean, Disposers.find_bean}
-pub use Rattle.cdi_effective.specs.{declared.records.Effective.Effective, declared.records.BeanId.BeanId, Bindings.class_bindings}
+pub use Rattle.cdi_effective.specs.{declared.records.Effective.Effective, declared.records.BeanId.BeanId}
 unfoldable pub use Rattle.cdi_effective.specs.Specialized.{is_replaced, behind}
 pub use Rattle.cdi_effective.specs.Beans.{entries, managed, product_where}
 pub use Rattle.cdi_effective.proofs.PlaceLemmas.{own-found}
-pub use Rattle.cdi_intercept.specs.{Chains.is_enabled, Sets.sets_of, Lent.uses_at}
+pub use Rattle.cdi_intercept.specs.{Chains.is_enabled}
 unfoldable pub use Rattle.cdi_intercept.specs.Chains.{stands_around}
-pub use Rattle.cdi_resolve.specs.{Choices.candidate, Choices.is_named, declared.leaders.Leaders.Leaders, declared.choice.Choice.Choice}
+pub use Rattle.cdi_resolve.specs.{Choices.candidate, Choices.is_named, declared.leaders.Leaders.Leaders}
 unfoldable pub use Rattle.cdi_resolve.specs.Choices.{choice_of, chosen_by_name, named}
 pub use Rattle.cdi_resolve.specs.Leaders.{leading, nobody, with_candidate}
 pub use Rattle.cdi_resolve.proofs.PlaceLemmas.{next-left, rise-next}
-pub use Rattle.cdi_observe.specs.{Answers.answer_to, Wanted.point_named, Wanted.key_of_point, Lending.lent_value, Lending.are_answerable}
+pub use Rattle.cdi_observe.specs.{Answers.answer_to, Wanted.point_named, Wanted.key_of_point, Lending.are_answerable}
 unfoldable pub use Rattle.cdi_observe.specs.Around.{names_of_bean}
 pub use Rattle.cdi_observe.proofs.{AroundLemmas.stands-named, FoundLemmas.IsFound}
 pub use Rattle.cdi_observe.proofs.LendingLemmas.{chains-answerable, points-answerable}
@@ -58,7 +58,6 @@ unfoldable pub use Rattle.cdi_validate.specs.{Twice.specialized_twice, Twice.by_
 pub use Rattle.cdi_validate.specs.Linked.{is_first_enabled, specializing, specializing_by, faults_between, faults_of_chains, first_marked}
 pub use Rattle.cdi_validate.specs.Linked.{has_position, is_marked, links_to, KeepsChain}
 pub use Rattle.cdi_validate.specs.Together.{is_chainless, dependents_in, HaveNoCircle, is_empty, is_needless, AreNamed, is_nameless}
-pub use Rattle.cdi_validate.specs.Circles.{between, dependents, needed_by, Need, chosen_for, chosen_one, is_dependent, managed_id}
+pub use Rattle.cdi_validate.specs.Circles.{between, dependents, needed_by, Need, chosen_for, is_dependent, managed_id}
 pub use Rattle.cdi_validate.specs.Circles.{need_around, need_in, needs_in, dependents_by_text, with_dependent, needs}
 pub use Rattle.cdi_validate.specs.Faults.{name_clashes, enabled_names, enabled_name, circles, faults_of, name_prefixes, circle}
-pub use Rattle.cdi_validate.specs.Surrounded.{has_binding_in, with_binding, AreByBinding, beans_at, beans_in}

@@ -6,7 +6,6 @@ ghost use Rattle.std.specs.Option.{option_to_list};
 ghost use Rattle.cdi_effective.specs.Beans.{beans};
 ghost use Rattle.cdi_effective.specs.BeanText.{text_of_id};
 ghost use Rattle.cdi_effective.specs.declared.records.BeanId.{BeanId as AnId};
-ghost use Rattle.cdi_intercept.specs.Chains.{is_enabled, stands_around};
 ghost use Rattle.cdi_model.specs.Bytes.{byte_order};
 ghost use Rattle.cdi_model.specs.Decl.{kind_of, name_of_decl};
 ghost use Rattle.cdi_model.specs.DeclList.{find_decl, AreDistinct};
@@ -21,10 +20,10 @@ ghost use Rattle.cdi_validate.specs.Circles.{bean_of_point, chosen_for, chosen_o
 ghost use Rattle.cdi_validate.specs.Circles.{need_around, need_in, needs, needs_in, needs_to_run, product_id, with_dependent};
 ghost use Rattle.cdi_validate.specs.Faults.{circle, circles};
 ghost use Rattle.cdi_validate.specs.Needed.{bean_id, circle_at, edge, edges_of, numbers_of, AreNumbered};
-ghost use Rattle.cdi_validate.specs.Surrounded.{beans_at, with_binding, AreByBinding};
+ghost use Rattle.cdi_validate.specs.Surrounded.{give_needs, gives_needs, number_around, numbers_at, AreByInterceptor};
 ghost use Rattle.cdi_validate.specs.Together.{is_needless, AreNamed, HaveNoCircle};
 
-use crate::surrounded::{add_bean, may_surround};
+use crate::surrounded::{add_number, numbers_around};
 use crate::text::Text;
 use crate::twice::is_marked;
 use cdi_effective::{BeanId, Effective};
@@ -273,49 +272,91 @@ fn edges_between<V: View>(
     requires { IsEvaluated (V.list view.now) (V.kept view.now) }
     ensures { IfOk result (λ edges. edges.items ≡ edges_of dependents.now.numbers (needs (V.list view.now))) }
 {
-    let decls = view.decls();
-    let by_binding = by_binding(alloc, dependents, decls)?;
+    let by_interceptor = by_interceptor(alloc, view, dependents)?;
     let mut edges = Vec::new(alloc);
-    for decl in decls.iter() {
-        add_needs(alloc, view, dependents, &by_binding, decl, &mut edges)?;
+    for decl in view.decls().iter() {
+        add_needs(alloc, view, dependents, &by_interceptor, decl, &mut edges)?;
     }
     Ok(edges)
 }
 
-/// The dependent beans by the binding types at their places. It takes memory for them, and for the bindings at the places
-/// of each.
-fn by_binding<'a>(
+/// The numbers of the dependent beans by the interceptors around their places, where an interceptor gives beans something to
+/// need. It takes memory for them, and for what is around each bean.
+fn by_interceptor<V: View>(
     alloc: Global,
+    view: &V,
     dependents: &Dependents,
-    decls: &'a Decls,
-) -> Result<BTreeMap<Name, Vec<&'a BeanDecl>>, AllocError>
-    ensures { IfOk result (λ by_binding. AreByBinding (keys dependents.now.numbers) decls.now by_binding) }
+) -> Result<BTreeMap<Name, Vec<usize>>, AllocError>
+    requires { IsEvaluated (V.list view.now) (V.kept view.now) }
+    ensures { IfOk result (λ by_interceptor. give_needs (V.list view.now) ≡ true
+        → AreByInterceptor dependents.now.numbers (V.list view.now) by_interceptor) }
 {
-    let mut by_binding = BTreeMap::new(alloc);
-    for decl in decls.iter() {
-        add_by_binding(alloc, dependents, decls, decl, &mut by_binding)?;
+    if !give_needs(view.decls()) {
+        return Ok(BTreeMap::new(alloc));
     }
-    Ok(by_binding)
+    number_all(alloc, view, dependents)
 }
 
-/// Adds the managed bean of a declaration to those of the binding types at its places, if it is dependent.
-fn add_by_binding<'a>(
+/// The numbers of the dependent beans by the interceptors around their places.
+fn number_all<V: View>(
     alloc: Global,
+    view: &V,
     dependents: &Dependents,
-    decls: &Decls,
-    decl: &'a Decl,
-    by_binding: &mut BTreeMap<Name, Vec<&'a BeanDecl>>,
+) -> Result<BTreeMap<Name, Vec<usize>>, AllocError>
+    requires { IsEvaluated (V.list view.now) (V.kept view.now) }
+    ensures { IfOk result (AreByInterceptor dependents.now.numbers (V.list view.now)) }
+{
+    let mut by_interceptor = BTreeMap::new(alloc);
+    for decl in view.decls().iter() {
+        add_by_interceptor(alloc, view, dependents, decl, &mut by_interceptor)?;
+    }
+    Ok(by_interceptor)
+}
+
+/// Whether an interceptor of some declarations is enabled and has points.
+fn give_needs(decls: &Decls) -> bool
+    ensures { result ≡ give_needs decls.now }
+{
+    for decl in decls.iter() {
+        if gives_needs(decl) {
+            return true;
+        }
+    }
+    false
+}
+
+fn gives_needs(decl: &Decl) -> bool
+    ensures { result ≡ gives_needs decl.now }
+{
+    match decl {
+        Decl::Interceptor(interceptor) => {
+            interceptor.priority.is_some() && !interceptor.points.is_empty()
+        }
+        _ => false,
+    }
+}
+
+/// Adds the number of the managed bean of a declaration to those of the interceptors around its places, if it is dependent.
+fn add_by_interceptor<V: View>(
+    alloc: Global,
+    view: &V,
+    dependents: &Dependents,
+    decl: &Decl,
+    by_interceptor: &mut BTreeMap<Name, Vec<usize>>,
 ) -> Result<(), AllocError>
-    ensures { OnOk result ((name : List ℕ) → beans_at by_binding.new name
-        ≡ beans_at by_binding.old name ++ with_binding (keys dependents.now.numbers) decls.now name decl.now) }
+    requires evaluated { IsEvaluated (V.list view.now) (V.kept view.now) }
+    requires found { find_decl (kind_of decl.now) (name_of_decl decl.now) (V.list view.now) ≡ Some decl.now }
+    ensures { OnOk result ((name : List ℕ) → numbers_at by_interceptor.new name
+        ≡ numbers_at by_interceptor.old name ++ number_around dependents.now.numbers (V.list view.now) name decl.now) }
 {
     let Decl::Bean(bean) = decl else {
         return Ok(());
     };
-    if dependents.number(alloc, managed_id(bean))?.is_none() {
+    let Some(number) = dependents.number(alloc, managed_id(bean))? else {
         return Ok(());
-    }
-    add_bean(alloc, decls, bean, by_binding)
+    };
+    let names = interceptors_of(alloc, view, bean)?;
+    add_number(alloc, names.as_slice(), number, by_interceptor)
 }
 
 /// Adds what beans need by a declaration.
@@ -323,13 +364,14 @@ fn add_needs<V: View>(
     alloc: Global,
     view: &V,
     dependents: &Dependents,
-    by_binding: &BTreeMap<Name, Vec<&BeanDecl>>,
+    by_interceptor: &BTreeMap<Name, Vec<usize>>,
     decl: &Decl,
     edges: &mut Vec<Edge>,
 ) -> Result<(), AllocError>
     requires distinct { AreDistinct (V.list view.now) }
     requires evaluated { IsEvaluated (V.list view.now) (V.kept view.now) }
-    requires by_binding { AreByBinding (keys dependents.now.numbers) (V.list view.now) by_binding.now }
+    requires around { give_needs (V.list view.now) ≡ true
+        → AreByInterceptor dependents.now.numbers (V.list view.now) by_interceptor.now }
     requires found { find_decl (kind_of decl.now) (name_of_decl decl.now) (V.list view.now) ≡ Some decl.now }
     ensures { OnOk result (edges.new.items ≡ edges.old.items
         ++ edges_of dependents.now.numbers (needs_in (V.list view.now) decl.now)) }
@@ -337,7 +379,7 @@ fn add_needs<V: View>(
     match decl {
         Decl::Bean(bean) => add_needs_along(alloc, view, dependents, bean, decl.mentions(), edges),
         Decl::Interceptor(interceptor) => {
-            add_needs_around(alloc, view, dependents, by_binding, interceptor, edges)
+            add_needs_around(alloc, view, dependents, by_interceptor, interceptor, edges)
         }
         _ => Ok(()),
     }
@@ -450,13 +492,14 @@ fn add_needs_around<V: View>(
     alloc: Global,
     view: &V,
     dependents: &Dependents,
-    by_binding: &BTreeMap<Name, Vec<&BeanDecl>>,
+    by_interceptor: &BTreeMap<Name, Vec<usize>>,
     interceptor: &InterceptorDecl,
     edges: &mut Vec<Edge>,
 ) -> Result<(), AllocError>
     requires distinct { AreDistinct (V.list view.now) }
     requires evaluated { IsEvaluated (V.list view.now) (V.kept view.now) }
-    requires by_binding { AreByBinding (keys dependents.now.numbers) (V.list view.now) by_binding.now }
+    requires around { give_needs (V.list view.now) ≡ true
+        → AreByInterceptor dependents.now.numbers (V.list view.now) by_interceptor.now }
     requires found { find_decl kinds.Interceptor interceptor.now.name (V.list view.now) ≡ Some (declared.Interceptor interceptor.now) }
     ensures { OnOk result (edges.new.items ≡ edges.old.items ++ edges_of dependents.now.numbers
         (flat_map (need_around (V.list view.now) interceptor.now (chosen_for (V.list view.now) interceptor.now.points))
@@ -465,23 +508,30 @@ fn add_needs_around<V: View>(
     if interceptor.priority.is_none() {
         return Ok(());
     }
-    let Some(beans) = may_surround(by_binding, interceptor) else {
-        return Ok(());
-    };
     let chosen = chosen_for(alloc, view, dependents, interceptor.points.as_slice())?;
     if chosen.is_empty() {
         return Ok(());
     }
-    for bean in beans.as_slice() {
-        add_need_around(
-            alloc,
-            view,
-            dependents,
-            interceptor,
-            bean,
-            chosen.as_slice(),
-            edges,
-        )?;
+    let numbers = numbers_around(by_interceptor, &interceptor.name);
+    push_edges(numbers, chosen.as_slice(), edges)
+}
+
+/// Appends the edges from each of some numbers to each of others.
+fn push_edges(from: &[usize], to: &[usize], edges: &mut Vec<Edge>) -> Result<(), AllocError>
+    ensures { OnOk result (edges.new.items ≡ edges.old.items ++ flat_map (λ p. map (edge p) to.now) from.now) }
+{
+    for number in from {
+        push_edges_from(*number, to, edges)?;
+    }
+    Ok(())
+}
+
+/// Appends the edges from a number to some others.
+fn push_edges_from(from: usize, to: &[usize], edges: &mut Vec<Edge>) -> Result<(), AllocError>
+    ensures { OnOk result (edges.new.items ≡ edges.old.items ++ map (edge from) to.now) }
+{
+    for number in to {
+        edges.push(Edge { from, to: *number })?;
     }
     Ok(())
 }
@@ -505,56 +555,6 @@ fn chosen_for<V: View>(
         }
     }
     Ok(chosen)
-}
-
-/// Adds what a managed bean needs for an interceptor that is enabled, if it is dependent, and the interceptor is around a
-/// place of it: the beans with these numbers.
-fn add_need_around<V: View>(
-    alloc: Global,
-    view: &V,
-    dependents: &Dependents,
-    interceptor: &InterceptorDecl,
-    bean: &BeanDecl,
-    chosen: &[usize],
-    edges: &mut Vec<Edge>,
-) -> Result<(), AllocError>
-    requires distinct { AreDistinct (V.list view.now) }
-    requires evaluated { IsEvaluated (V.list view.now) (V.kept view.now) }
-    requires around { find_decl kinds.Interceptor interceptor.now.name (V.list view.now) ≡ Some (declared.Interceptor interceptor.now) }
-    requires enabled { is_enabled interceptor.now ≡ true }
-    requires bean { find_decl kinds.Bean bean.now.name (V.list view.now) ≡ Some (declared.Bean bean.now) }
-    ensures { OnOk result ((needed : List (List ℕ)) → chosen.now ≡ numbers_of dependents.now.numbers needed
-        → edges.new.items ≡ edges.old.items
-        ++ edges_of dependents.now.numbers (need_around (V.list view.now) interceptor.now needed (declared.Bean bean.now))) }
-{
-    if !is_around(alloc, view, interceptor, bean)? {
-        return Ok(());
-    }
-    let Some(from) = dependents.number(alloc, managed_id(bean))? else {
-        return Ok(());
-    };
-    for to in chosen {
-        edges.push(Edge { from, to: *to })?;
-    }
-    Ok(())
-}
-
-/// Whether an interceptor that is enabled is around a place of a bean.
-fn is_around<V: View>(
-    alloc: Global,
-    view: &V,
-    interceptor: &InterceptorDecl,
-    bean: &BeanDecl,
-) -> Result<bool, AllocError>
-    requires distinct { AreDistinct (V.list view.now) }
-    requires evaluated { IsEvaluated (V.list view.now) (V.kept view.now) }
-    requires around { find_decl kinds.Interceptor interceptor.now.name (V.list view.now) ≡ Some (declared.Interceptor interceptor.now) }
-    requires enabled { is_enabled interceptor.now ≡ true }
-    requires bean { find_decl kinds.Bean bean.now.name (V.list view.now) ≡ Some (declared.Bean bean.now) }
-    ensures { IfOk result (λ around. around ≡ stands_around (V.list view.now) interceptor.now bean.now) }
-{
-    let names = interceptors_of(alloc, view, bean)?;
-    Ok(names.contains(&interceptor.name))
 }
 
 fn managed_id(bean: &BeanDecl) -> BeanId

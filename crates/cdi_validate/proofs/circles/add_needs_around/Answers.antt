@@ -1,11 +1,16 @@
-use Rattle.cdi_validate.proofs.Common.{◌≡◌, ◌++◌, sym, ap, ◌∙◌, flat_map, true, map, arith, eqb-true, subst}
-use Rattle.cdi_validate.proofs.Common.{nil_from_length, keys, inl, inr, append-nil, points-declared, chosen_for, need_around, ◌+◌, drop}
-use Rattle.cdi_validate.proofs.Common.{next-left, are_answerable, key_of_point, points-answerable, drop_all, beans_in}
-use Rattle.std.specs.Option.{option_copied}
+use Rattle.cdi_validate.proofs.Common.{◌≡◌, ◌++◌, List, [], ◌∷◌, sym, ap, ◌∙◌, refl, flat_map, true, map, arith, eqb-true, subst, length}
+use Rattle.cdi_validate.proofs.Common.{nil_from_length, inl, inr, append-nil, points-declared, chosen_for, false≢true, IfOk-weaker}
+use Rattle.cdi_validate.proofs.Common.{are_answerable, key_of_point, points-answerable, is_enabled}
+use Rattle.std.proofs.Common.{nat_eq}
+use Rattle.std.proofs.lemmas.Bool.{and_from}
+use Rattle.std.proofs.lemmas.Map.Keys.{any_passes_from_place}
+use Rattle.cdi_model.specs.declared.decl.PointDecl.{PointDecl}
 use Rattle.cdi_model.specs.declared.decl.Decl.TheVariants as declared
-use Rattle.cdi_validate.proofs.NeedLemmas.{edges-more, none-around}
-use Rattle.cdi_validate.proofs.SurroundLemmas.{around-may, bean-found}
-use Rattle.cdi_validate.specs.Needed.{edges_of, numbers_of}
+use Rattle.cdi_validate.proofs.FoundLemmas.{found-at}
+use Rattle.cdi_validate.proofs.NeedLemmas.{none-around}
+use Rattle.cdi_validate.proofs.SurroundLemmas.{around-all}
+use Rattle.cdi_validate.specs.Needed.{edge, numbers_of}
+use Rattle.cdi_validate.specs.Surrounded.{are_some, gives_needs}
 use Rattle.cdi_validate.proofs.circles.add_needs_around.Goals as goal
 
 pub returns-then-is_none : goal.returns-then-is_none
@@ -14,18 +19,6 @@ returns-then-is_none g c =
     let old = c.args.edges.now.items in
     sym (ap (λ es. old ++ es) (none-around ds c.args.dependents.now.numbers c.args.interceptor.now
     (chosen_for ds c.args.interceptor.now.points) (inl c.if-is_none.ensures) ds) ∙ append-nil old)
-
-pub returns-in_default : goal.returns-in_default
-returns-in_default g c =
-    let ds = g.V.View.list c.args.view.now in
-    let numbers = c.args.dependents.now.numbers in
-    let old = c.args.edges.now.items in
-    let given = need_around ds c.args.interceptor.now (chosen_for ds c.args.interceptor.now.points) in
-    sym (append-nil old)
-    ∙ ap (λ beans. old ++ edges_of numbers (flat_map given (map (λ bean. declared.Bean bean) beans)))
-    (ap (λ o. beans_in (option_copied o)) (sym c.in_default.is) ∙ c.may_surround.ensures)
-    ∙ ap (λ es. old ++ es) (around-may ds numbers c.args.interceptor.now (chosen_for ds c.args.interceptor.now.points)
-    c.args.by_binding.now c.requires.by_binding)
 
 pub chosen_for-requires : goal.chosen_for-requires
 chosen_for-requires g c =
@@ -45,50 +38,34 @@ returns-then-is_empty g c =
     (inr (ap (λ points. numbers_of c.args.dependents.now.numbers (chosen_for ds points)) (sym c.as_slice.ensures)
     ∙ sym c.in_ok-chosen.ensures ∙ none)) ds) ∙ append-nil old)
 
-pub loop-bean-init : goal.loop-bean-init
-loop-bean-init g c =
-    let ds = g.V.View.list c.args.view.now in
-    let numbers = c.args.dependents.now.numbers in
-    let chosen = chosen_for ds c.args.interceptor.now.points in
-    let old = c.args.edges.now.items in
-    ap (λ beans. old ++ edges_of numbers (flat_map (need_around ds c.args.interceptor.now chosen) (map (λ bean. declared.Bean bean) beans)))
-    (ap (map (λ bean. bean.now)) c.as_slice-bean-items.ensures.value ∙ c.in-Some.ensures)
-    ∙ ap (λ es. old ++ es) (around-may ds numbers c.args.interceptor.now chosen c.args.by_binding.now c.requires.by_binding)
-
-pub add_need_around-requires-clause-bean : goal.add_need_around-requires-clause-bean
-add_need_around-requires-clause-bean g c =
-    bean-found (g.V.View.list c.args.view.now) (keys c.args.dependents.now.numbers) c.args.by_binding.now c.args.interceptor.now.bindings
-    c.as_slice-bean-items.result.now c.loop-bean.bean-index c.bean-item.result c.requires.distinct c.requires.by_binding
-    (ap (map (λ bean. bean.now)) c.as_slice-bean-items.ensures.value ∙ c.in-Some.ensures) c.loop-bean-test.true c.bean-item.is
-
-pub loop-bean-preserved : goal.loop-bean-preserved
-loop-bean-preserved g c =
-    let ds = g.V.View.list c.args.view.now in
-    let numbers = c.args.dependents.now.numbers in
-    let points = c.args.interceptor.now.points in
-    let before = c.loop-bean.edges.items in
-    let beans = c.as_slice-bean-items.result.now in
-    let i = c.loop-bean.bean-index in
-    let bean = c.bean-item.result in
-    let given = need_around ds c.args.interceptor.now (chosen_for ds points) in
-    edges-more numbers before c.add_need_around.new.edges.items (given (declared.Bean bean.now))
-    (flat_map given (map (λ bean. declared.Bean bean) (map (λ bean. bean.now) (drop (i + 1) beans))))
-    (c.in_ok-add_need_around.ensures (chosen_for ds points)
-    (c.as_slice-in-loop-bean.ensures.value ∙ c.in_ok-chosen.ensures
-    ∙ ap (λ points. numbers_of numbers (chosen_for ds points)) c.as_slice.ensures))
-    ∙ sym (next-left (λ left. before
-    ++ edges_of numbers (flat_map given (map (λ bean. declared.Bean bean) (map (λ bean. bean.now) left))))
-    beans i bean c.loop-bean-test.true c.bean-item.is)
-    ∙ c.loop-bean.invariant
-
 pub returns : goal.returns
 returns g c =
     let ds = g.V.View.list c.args.view.now in
-    let given = need_around ds c.args.interceptor.now (chosen_for ds c.args.interceptor.now.points) in
-    let beans = c.as_slice-bean-items.result.now in
-    let now = c.loop-bean.edges.items in
-    sym (append-nil now)
-    ∙ ap (λ left. now
-    ++ edges_of c.args.dependents.now.numbers (flat_map given (map (λ bean. declared.Bean bean) (map (λ bean. bean.now) left))))
-    (sym (drop_all c.loop-bean.bean-index beans (omega (arith, c.loop-bean-test.false))))
-    ∙ c.loop-bean.invariant
+    let numbers = c.args.dependents.now.numbers in
+    let i = c.args.interceptor.now in
+    let old = c.args.edges.now.items in
+    let there = found-at ds (declared.Interceptor i) c.requires.found in
+    let enabled : is_enabled i ≡ true = c.if-is_none.ensures in
+    let given = any_passes_from_place gives_needs ds there.0 (declared.Interceptor i) there.1
+    (and_from (is_enabled i) (are_some i.points) enabled (some i.points refl)) in
+    let around = c.requires.around given i.name in
+    IfOk-weaker c.push_edges.result _ _ (λ done e. e
+    ∙ ap (λ to. old ++ flat_map (λ p. map (edge p) to) c.numbers_around-numbers.result.now)
+    (c.as_slice-2.ensures.value ∙ c.in_ok-chosen.ensures ∙ ap (λ points. numbers_of numbers (chosen_for ds points)) c.as_slice.ensures)
+    ∙ ap (λ from. old ++ flat_map (λ p. map (edge p) (numbers_of numbers (chosen_for ds i.points))) from)
+    (c.numbers_around-numbers.ensures ∙ around)
+    ∙ ap (λ es. old ++ es) (around-all ds numbers i (chosen_for ds i.points) there.0 c.requires.distinct there.1 enabled ds))
+    c.push_edges.ensures
+  where
+    none-chosen : (points : List PointDecl) → c.args.interceptor.now.points ≡ points → points ≡ []
+        → length c.in_ok-chosen.chosen.items ≡ 0
+    none-chosen points is none =
+        ap length (c.in_ok-chosen.ensures
+        ∙ ap (λ ps. numbers_of c.args.dependents.now.numbers (chosen_for (g.V.View.list c.args.view.now) ps))
+        (c.as_slice.ensures ∙ is ∙ none))
+
+    some : (points : List PointDecl) → c.args.interceptor.now.points ≡ points → are_some points ≡ true
+    some [] is =
+        let empty : c.in_ok-chosen.chosen.len ≡ 0 = omega (arith, c.in_ok-chosen.chosen.ok.0, none-chosen [] is refl) in
+        absurd (false≢true (sym c.if-is_empty.false ∙ c.is_empty.ensures ∙ ap (λ n. nat_eq n 0) empty))
+    some (p ∷ points) is = refl

@@ -1,5 +1,4 @@
-use Rattle.cdi_validate.proofs.Common.{◌≡◌, ◌++◌, sym, ap, ◌∙◌, append_assoc, flat_map, [], ◌∷◌, subst, keys, append-nil, needs_in}
-use Rattle.cdi_validate.proofs.Common.{AreByBinding}
+use Rattle.cdi_validate.proofs.Common.{◌≡◌, ◌++◌, sym, ap, ◌∙◌, append_assoc, flat_map, [], ◌∷◌, append-nil, needs_in}
 use Rattle.cdi_validate.proofs.{FoundLemmas.found-next, NeedLemmas.edges-more}
 use Rattle.cdi_validate.specs.Needed.{edges_of}
 use Rattle.cdi_validate.proofs.circles.edges_between.Goals as goal
@@ -10,22 +9,17 @@ loop-decl-init g c =
     let numbers = c.args.dependents.now.numbers in
     let left = c.into_iter-decl-iterator.result in
     let same : left ≡ ds = c.into_iter-decl-iterator.ensures.into_iter_gives ∙ c.iter-decl-items.ensures.value
-    ∙ c.decls-decls.ensures.value in
+    ∙ c.decls.ensures.value in
     record {
       gone = ([], same);
       edges = ap (λ es. es ++ edges_of numbers (flat_map (needs_in ds) left)) c.new-edges.ensures.items
           ∙ ap (λ left. edges_of numbers (flat_map (needs_in ds) left)) same;
     }
 
-pub add_needs-requires-clause-by_binding : goal.add_needs-requires-clause-by_binding
-add_needs-requires-clause-by_binding g c =
-    subst (λ ds. AreByBinding (keys c.args.dependents.now.numbers) ds c.in_ok-by_binding.by_binding) c.decls-decls.ensures.value
-    c.in_ok-by_binding.ensures
-
 pub add_needs-requires-clause-found : goal.add_needs-requires-clause-found
 add_needs-requires-clause-found g c =
     let gone = c.loop-decl.invariant.gone in
-    found-next (g.V.View.list c.args.view.now) gone.0 c.next.new.self c.in-Some.decl.now c.decls-decls.ensures.distinct
+    found-next (g.V.View.list c.args.view.now) gone.0 c.next.new.self c.in-Some.decl.now c.decls.ensures.distinct
     (ap (λ rest. gone.0 ++ rest) (sym c.in-Some.ensures.steps) ∙ gone.1)
 
 pub loop-decl-preserved : goal.loop-decl-preserved
