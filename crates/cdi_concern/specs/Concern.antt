@@ -1,7 +1,6 @@
 -- Which declarations are to be looked at again after edits.
-use Rattle.std.specs.Prelude.{ℕ, Bool, ◌&&◌, ◌||◌, List, [], ◌∷◌, ◌++◌, map, filter, flat_map, slice_get, if◌then◌else◌}
+use Rattle.std.specs.Prelude.{ℕ, Bool, ◌&&◌, ◌||◌, List, [], ◌++◌, map, filter, flat_map, if◌then◌else◌}
 use Rattle.std.specs.List.{list_any}
-use Rattle.std.specs.Option.{option_map_or}
 use Rattle.cdi_model.specs.Decl.{key_of}
 use Rattle.cdi_model.specs.DeclKey.{key_at, same_key}
 use Rattle.cdi_model.specs.Edits.{is_among}
@@ -62,10 +61,6 @@ words_sought ds m =
 -- those of the declarations that have one of some words
 abbrev pub keys_under : List Decl → List Word → List DeclKey
 keys_under ds words = map key_of (filter (has_one ds words) ds)
-
--- that of the declaration at a position
-abbrev pub keys_at : List Decl → ℕ → List DeclKey
-keys_at ds p = option_map_or (λ d. key_of d ∷ []) (slice_get ds p) []
 
 abbrev pub is_stereotype : Decl → Bool
 is_stereotype d = is_of_kind kinds.Stereotype (key_of d)

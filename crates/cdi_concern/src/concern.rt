@@ -29,7 +29,7 @@ pub fn concerned(
     let mut keys = Vec::new(alloc);
     push_keys(moved.edited, &mut keys)?;
     push_keys(moved.affected, &mut keys)?;
-    push_keys_under(index, words.as_slice(), &mut keys)?;
+    push_keys_under(alloc, index, words.as_slice(), &mut keys)?;
     push_keys_of_readers(alloc, index, moved.affected, &mut keys)?;
     push_keys_of_stereotypes(index.decls(), moved.edited, &mut keys)?;
     push_keys_of_classes(moved.classes, &mut keys)?;

@@ -1,16 +1,14 @@
 //! The keys of declarations that are found.
-ghost use Rattle.std.specs.Prelude.{◌≡◌, ◌||◌, ◌++◌, filter, flat_map, map, OnOk};
+ghost use Rattle.std.specs.Prelude.{◌≡◌, ◌||◌, ◌++◌, filter, map, OnOk};
 ghost use Rattle.std.specs.List.{list_any};
 ghost use Rattle.cdi_model.specs.Decl.{key_of};
 ghost use Rattle.cdi_model.specs.Edits.{is_among};
-ghost use Rattle.cdi_positions.specs.Marks.{marked_from};
-ghost use Rattle.cdi_concern.specs.Concern.{is_inherited, is_stereotype, keys_at, keys_of_classes, keys_of_stereotypes, keys_under};
+ghost use Rattle.cdi_concern.specs.Concern.{is_inherited, is_stereotype, keys_of_classes, keys_of_stereotypes, keys_under};
 ghost use Rattle.cdi_concern.specs.Concern.{reads_one};
 
 use crate::sought::is_of_kind;
 use cdi_index::Index;
 use cdi_model::{Decl, DeclKey, Decls, Kind, Name};
-use cdi_positions::PositionSet;
 use cdi_postings::Word;
 use std::alloc::{AllocError, Global};
 
@@ -24,31 +22,27 @@ pub(crate) fn push_keys(more: &[DeclKey], keys: &mut Vec<DeclKey>) -> Result<(),
     Ok(())
 }
 
-/// Appends those of the declarations at some positions.
-fn push_keys_at(
-    decls: &Decls,
-    positions: &PositionSet,
-    keys: &mut Vec<DeclKey>,
-) -> Result<(), AllocError>
-    ensures { OnOk result (keys.new.items ≡ keys.old.items ++ flat_map (keys_at decls.now) (marked_from 0 positions.now)) }
+/// Appends those of some declarations.
+fn push_keys_of(decls: &[&Decl], keys: &mut Vec<DeclKey>) -> Result<(), AllocError>
+    ensures { OnOk result (keys.new.items ≡ keys.old.items ++ map key_of (map (λ d. d.now) decls.now)) }
 {
-    for position in positions.iter() {
-        if let Some(decl) = decls.at(position) {
-            keys.push(decl.key())?;
-        }
+    for decl in decls {
+        keys.push(decl.key())?;
     }
     Ok(())
 }
 
 /// Appends those of the declarations that have one of some words.
 pub(crate) fn push_keys_under(
+    alloc: Global,
     index: &Index,
     words: &[Word],
     keys: &mut Vec<DeclKey>,
 ) -> Result<(), AllocError>
     ensures { OnOk result (keys.new.items ≡ keys.old.items ++ keys_under index.now.decls words.now) }
 {
-    push_keys_at(index.decls(), &index.positions_under(words), keys)
+    let decls = index.decls_under(alloc, words)?;
+    push_keys_of(&decls, keys)
 }
 
 /// Appends those of the declarations of which what is made reads one that is affected, a bean.

@@ -19,7 +19,6 @@ pub use Rattle.base_lists.proofs.Any.{any-same, any-or, any-more}
 pub use Rattle.base_numbers.proofs.Numbers.{nat_eq-refl}
 pub use Rattle.base_numbers.proofs.Texts.{bytes_eq-turned}
 pub use Rattle.base_options.proofs.Booleans.{and-false, same-bool}
-pub use Rattle.cdi_positions.specs.Marks.{is_marked, marked_from}
 pub use Rattle.cdi_model.specs.declared.key.DeclKey.{DeclKey}
 pub use Rattle.cdi_model.specs.DeclKey.{same_key, same_key_equiv, key_at}
 pub use Rattle.cdi_model.proofs.EntryLemmas.{key_exact}
@@ -69,7 +68,7 @@ pub use Rattle.cdi_index.specs.Next.{applied, change_of, is_made, stored_as, IsN
 pub use Rattle.cdi_index.specs.declared.shelf.Shelf.{Shelf}
 pub use Rattle.cdi_index.specs.Told.{Tells}
 pub use Rattle.cdi_index.specs.declared.shelf.Kept.{Kept}
-pub use Rattle.cdi_index.specs.Under.{words_by, beans_under, has_one, is_at, records_at, is_at_slots, is_at_words, has_name}
+pub use Rattle.cdi_index.specs.Under.{words_by, beans_under, has_one, has_name}
 pub use Rattle.cdi_index.specs.Under.{observes_one, is_sought}
 pub use Rattle.cdi_index.specs.Asked.{asks_in, is_asked}
 unfoldable pub use Rattle.cdi_index.specs.Asked.{asks_for}

@@ -57,7 +57,7 @@ tests : (a r f g c : Bool) → (a ≡ false → f ≡ g) → (a ≡ true → g �
     → ((a || r) && (c && f)) ≡ (f && (c && (not g || r)))
 tests a r f g s5 kept read = grind (arith, and-false, false≢true)
 
-some-map : {X Y : Type 0} (f : X → Y) (o : Option X) → is_some (option_map f o) ≡ is_some o
+pub some-map : {X Y : Type 0} (f : X → Y) (o : Option X) → is_some (option_map f o) ≡ is_some o
 some-map f None = refl
 some-map f (Some x) = refl
 

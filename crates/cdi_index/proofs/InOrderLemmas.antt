@@ -4,7 +4,7 @@ use Rattle.cdi_index.proofs.Common.{refl, sym, ap, ◌∙◌, suc, zero, ◌<◌
 use Rattle.cdi_index.proofs.Common.{nat_eq, eqb-true, nat_eq-refl, list_any, AllByRecursion, Decl, DeclKey, key_of, AreDistinct, Word, Listing}
 use Rattle.cdi_index.proofs.Common.{under, Kept, Made, made_in, made_of, Stored, IsExact, IsSound, words_have, words_by, has_one, entries}
 use Rattle.cdi_index.proofs.Common.{beans_under, Effective, lent, AreReplaced, position, position-there, is_of, option_map_or, kind_of, name_of_decl}
-use Rattle.cdi_index.proofs.Common.{is_listed, made_of_bean, made_of_interceptor, keys_have, classes_have, or_right}
+use Rattle.cdi_index.proofs.Common.{find_decl, option_to_list, is_listed, made_of_bean, made_of_interceptor, keys_have, classes_have, or_right}
 use Rattle.std.proofs.Common.{slice_index_or}
 use Rattle.std.proofs.lemmas.{List.append-nil, Map.Keys.any_passes_from_place}
 use Rattle.std.specs.List.{Any, Contains}
@@ -26,7 +26,7 @@ use Rattle.cdi_index.proofs.SlotLemmas.{has-place, lent-there}
 use Rattle.cdi_index.proofs.UnderLemmas.{key-found, made-at, of-decl}
 use Rattle.cdi_index.proofs.ChangeLemmas.{one-stored}
 use Rattle.cdi_index.specs.{Numbers.AreNumbered, Slots.AreAtSlots, Slots.entry_kept, declared.shelf.Entry.Entry}
-use Rattle.cdi_index.specs.InOrder.{kept_under, kept_with, numbers_of, records_kept, with_word, AreInOrder}
+use Rattle.cdi_index.specs.InOrder.{decl_kept, kept_under, kept_with, numbers_of, records_kept, with_word, AreInOrder}
 
 -- ---- members of lists
 
@@ -532,3 +532,30 @@ module _ (ds : List Decl) (bound : ℕ) (m : DeclKey → Option Stored) (kept : 
           ap (flat_map (records_kept replaced)) same-found
           ∙ flat-twice (records_kept replaced) of_decl (filter (has_one ds words) ds)
           ∙ each (λ d. flat_map (records_kept replaced) (of_decl d)) (entries ds) (has_one ds words) ds at-decl
+
+    one-of : (p : ℕ) (d : Decl) → slice_get ds p ≡ Some d → has_one ds words d ≡ true → flat_map (decl_kept ds) (of_decl d) ≡ d ∷ []
+    one-of p d at passes =
+        let word = any-has (words_have (words_by ds d)) words passes in
+        let is = is-of p d word.0 at word.2 in
+        ap (λ o. flat_map (decl_kept ds) (stored_of o)) is.stored
+        ∙ append-nil (decl_kept ds is.entry)
+        ∙ ap (λ (k : DeclKey). option_to_list (find_decl k.kind k.name ds)) is.key
+        ∙ ap option_to_list (own-found ds p d distinct at)
+
+    all-of : (test : Decl → Bool) (f : Decl → List Decl) (xs : List Decl)
+        → ((i : ℕ) (d : Decl) → slice_get xs i ≡ Some d → test d ≡ true → f d ≡ d ∷ []) → flat_map f (filter test xs) ≡ filter test xs
+    all-of test f [] each = refl
+    all-of test f (x ∷ xs) each = by (test x) refl (all-of test f xs (λ i. each (suc i)))
+      where
+        by : (b : Bool) → test x ≡ b → flat_map f (filter test xs) ≡ filter test xs
+            → flat_map f (cond b (x ∷ filter test xs) (filter test xs)) ≡ cond b (x ∷ filter test xs) (filter test xs)
+        by true e rest = ap (λ ys. ys ++ flat_map f (filter test xs)) (each 0 x refl e) ∙ ap (λ ys. x ∷ ys) rest
+        by false e rest = rest
+
+    -- and what is kept is of these
+    pub decls-under : flat_map (decl_kept ds) ordered ≡ filter (has_one ds words) ds
+    unfolding kept_in_order
+    decls-under =
+        ap (flat_map (decl_kept ds)) same-found
+        ∙ flat-twice (decl_kept ds) of_decl (filter (has_one ds words) ds)
+        ∙ all-of (has_one ds words) (λ d. flat_map (decl_kept ds) (of_decl d)) ds one-of

@@ -6,13 +6,14 @@ use Rattle.cdi_index.proofs.Common.{arith, position, position-there, false≢tru
 use Rattle.cdi_index.proofs.Common.{made_of_type, made_of_bean, made_of_binding, made_of_interceptor, number_in, applied, change_of, kept_of}
 use Rattle.cdi_index.proofs.Common.{Change, Stored, IsExact, is_kept, and_from, or_left, keys_changed, is_some, reads, cond}
 use Rattle.std.proofs.Common.{unwrap_or}
-use Rattle.std.proofs.lemmas.{Bool.ltb-false, Bool.ltb-true, Option.slice_get-map}
+use Rattle.std.proofs.lemmas.{Bool.ltb-false, Bool.ltb-true, Option.slice_get-map, Option.slice_get_cases, Option.slice_get_within}
 use Rattle.cdi_model.specs.declared.decl.Kind.TheVariants as kinds
 use Rattle.cdi_model.proofs.PositionLemmas.{position-found}
 use Rattle.cdi_effective.proofs.PlaceLemmas.{own-found, own-position}
 use Rattle.cdi_index.proofs.AffectedLemmas.{hits, hit-parts}
 use Rattle.cdi_index.proofs.ChangeLemmas.{among-turned, comes, number-of, made-of, Anew, Before, StoredBy}
 use Rattle.cdi_index.proofs.KeyLemmas.{keys-made}
+use Rattle.cdi_index.proofs.CountLemmas.{some-map}
 use Rattle.cdi_index.proofs.OrderLemmas.{all-at, edited-split, part-order, part-place, IsSplit}
 use Rattle.cdi_index.proofs.ReadLemmas.{bean-found}
 use Rattle.cdi_index.proofs.SlotLemmas.{has-place}
@@ -32,14 +33,10 @@ place-in (a ∷ ls) bs (suc p) x at = elim (place-in ls bs p x at) [
 
 -- a place has something just below the length
 within : {X : Type 0} (xs : List X) (p : ℕ) → p < length xs → (x : X) × (slice_get xs p ≡ Some x)
-within [] p less = absurd (omega (arith, less))
-within (x ∷ xs) zero less = (x, refl)
-within (x ∷ xs) (suc p) less = within xs p (omega (arith, less))
-
-below : {X : Type 0} (xs : List X) (p : ℕ) (x : X) → slice_get xs p ≡ Some x → p < length xs
-below [] p x at = absurd (let no : None ≡ Some x = at in cc)
-below (y ∷ xs) zero x at = omega arith
-below (y ∷ xs) (suc p) x at = omega (arith, below xs p x at)
+within xs p less = elim (slice_get_cases xs p).1 [
+  | inl there ↦ (there.0, there.2)
+  | inr past ↦ absurd (omega (arith, less, past.0))
+]
 
 key-at : (ds : List Decl) (p : ℕ) (d : Decl) → slice_get ds p ≡ Some d → slice_get (map key_of ds) p ≡ Some (key_of d)
 key-at ds p d at = slice_get-map key_of ds p ∙ ap (option_map key_of) at
@@ -60,17 +57,13 @@ position-below kind name ds p place = by (slice_get ds p) refl
     by : (o : Option Decl) → slice_get ds p ≡ o → p < length ds
     by None none = absurd (false≢true (ap is_some (sym none ∙ position-there kind name ds p place)
         ∙ sym (position-found kind name ds) ∙ ap is_some place))
-    by (Some d) at = below ds p d at
+    by (Some d) at = slice_get_within ds p d at
 
 -- ---- what is made of a declaration
 
 binding-found : (name : List ℕ) (ds : List Decl) → is_some (find_binding name ds) ≡ is_some (find_decl kinds.Binding name ds)
 binding-found name [] = refl
 binding-found name (d ∷ ds) = grind (arith, binding-found name ds)
-
-some-map : {X Y : Type 0} (f : X → Y) (o : Option X) → is_some (option_map f o) ≡ is_some o
-some-map f None = refl
-some-map f (Some x) = refl
 
 -- something is made of a declaration of a kind of which something is
 made-some : (ds : List Decl) (kind : Kind) (name : List ℕ) (d : Decl) → find_decl kind name ds ≡ Some d → is_kept kind ≡ true
@@ -127,7 +120,7 @@ module _ (ds : List Decl) (edits : List Edit) (ks : List DeclKey) (m : StoredBy)
           let among : is_among (edited_keys edits) (key_of one.0) ≡ true =
           elim (place-in split.first split.later q (key_of one.0)
           (ap (λ l. slice_get l q) (sym split.are) ∙ key-at es q one.0 one.1)) [
-            | inl here ↦ absurd (omega (arith, below split.first q (key_of one.0) here, less, sum))
+            | inl here ↦ absurd (omega (arith, slice_get_within split.first q (key_of one.0) here, less, sum))
             | inr later ↦ all-at (λ k. is_among (edited_keys edits) k ≡ true) split.later split.all later.0 (key_of one.0) later.2
           ] in
           false≢true (sym (last q one.0 (omega (arith, less)) one.1) ∙ among)

@@ -2,12 +2,23 @@
 use Rattle.cdi_index.proofs.Common.{◌≡◌, ℕ, true, false, List, [], Option, Some, None, option_map, refl, sym, ap, ◌∙◌}
 use Rattle.cdi_index.proofs.Common.{Decl, Kind, key_at, same_key, find_decl, as_bean, Made, made_of_bean, made_of_interceptor, made_of_type}
 use Rattle.cdi_index.proofs.Common.{option_map_or, false≢true, key_of, AreDistinct, Word, words_have, is_some, same_key_equiv, arith, position}
-use Rattle.cdi_index.proofs.Common.{is_of, records_in, lent, replaced_records, position-there, entries, made_by, records_at}
+use Rattle.cdi_index.proofs.Common.{is_of, records_in, lent, replaced_records, position-there, entries, made_by, slice_get, Effective, BeanDecl}
 use Rattle.cdi_model.proofs.PositionLemmas.{name-found, position-found}
 use Rattle.cdi_model.specs.declared.decl.Decl.TheVariants as decls
 use Rattle.cdi_model.specs.declared.decl.Kind.TheVariants as kinds
+use Rattle.cdi_effective.proofs.PlaceLemmas.{own-place, place-found}
 use Rattle.cdi_index.proofs.ReplacedLemmas.{lent-of}
-use Rattle.cdi_index.proofs.UnderLemmas.{key-found, records-of-bean, some-made}
+use Rattle.cdi_index.proofs.UnderLemmas.{key-found, some-made}
+
+-- ---- the records at a place
+
+abbrev pub records_at : List Decl → ℕ → List Effective
+records_at ds p = option_map_or (entries ds) (slice_get ds p) []
+
+records-of-bean : (ds : List Decl) (p : ℕ) (bean : BeanDecl) → AreDistinct ds → slice_get ds p ≡ Some (decls.Bean bean)
+    → records_in ds bean.name ≡ records_at ds p
+unfolding records_in
+records-of-bean ds p bean distinct at = grind (arith, place-found, own-place)
 
 -- ---- what is made of a declaration is of one that is there
 

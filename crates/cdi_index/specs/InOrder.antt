@@ -3,7 +3,10 @@ use Rattle.std.specs.Prelude.{◌≡◌, ℕ, nat_eq, true, List, [], ◌∷◌,
 use Rattle.std.specs.List.{Any, Contains}
 use Rattle.std.specs.List.Sorted.{IsStrictlySortedBy}
 use Rattle.std.specs.Ordering.{nat_cmp}
+use Rattle.std.specs.Option.{option_to_list}
+use Rattle.cdi_model.specs.declared.decl.Decl.{Decl}
 use Rattle.cdi_model.specs.declared.key.DeclKey.{DeclKey}
+use Rattle.cdi_model.specs.DeclList.{find_decl}
 use Rattle.cdi_effective.specs.declared.records.Effective.{Effective}
 use Rattle.cdi_postings.specs.declared.word.Word.{Word}
 use Rattle.cdi_postings.specs.Listing.{Listing, under}
@@ -45,3 +48,13 @@ pub record AreSought (kept : ℕ → Option Kept) (replaced : DeclKey → Option
   pub ordered : List Kept
   pub in_order : AreInOrder (kept_under kept listings words) ordered
   pub are : beans ≡ filter (is_sought sought) (flat_map (records_kept replaced) ordered)
+
+-- the declaration of which this is kept
+abbrev pub decl_kept : List Decl → Kept → List Decl
+decl_kept ds e = option_to_list (find_decl e.key.kind e.key.name ds)
+
+-- These are the declarations of what is found, in the order of its numbers.
+pub record AreUnder (kept : ℕ → Option Kept) (listings : List Listing) (words : List Word) (ds found : List Decl) : Type 0 where
+  pub ordered : List Kept
+  pub in_order : AreInOrder (kept_under kept listings words) ordered
+  pub are : found ≡ flat_map (decl_kept ds) ordered

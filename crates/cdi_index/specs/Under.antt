@@ -1,11 +1,10 @@
 -- Which declarations are under words, and the beans that are found by these.
-use Rattle.std.specs.Prelude.{ℕ, nat_eq, ◌&&◌, Bool, true, false, List, [], ◌∷◌, flat_map, filter, Option, Some, None, if◌then◌else◌, position, slice_get}
+use Rattle.std.specs.Prelude.{ℕ, ◌&&◌, Bool, true, false, List, [], ◌∷◌, flat_map, filter}
 use Rattle.std.specs.List.{list_any}
 use Rattle.std.specs.Option.{option_map_or}
 use Rattle.std.specs.Str.{bytes_eq}
 use Rattle.cdi_model.specs.declared.decl.Decl.{Decl}
 use Rattle.cdi_model.specs.declared.decl.Decl.TheVariants as decls
-use Rattle.cdi_model.specs.DeclList.{is_of}
 use Rattle.cdi_match.specs.Chain.{has}
 use Rattle.cdi_model.specs.declared.quals.Qual.{Qual}
 use Rattle.cdi_effective.specs.Beans.{entries}
@@ -13,8 +12,6 @@ use Rattle.cdi_effective.specs.Bindings.{class_bindings}
 use Rattle.cdi_effective.specs.Disposers.{find_bean}
 use Rattle.cdi_effective.specs.declared.records.Effective.{Effective}
 use Rattle.cdi_postings.specs.declared.word.Word.{Word}
-use Rattle.cdi_postings.specs.Listing.{Listing, under}
-use Rattle.cdi_index.specs.declared.shelf.Kept.{Kept}
 use Rattle.cdi_index.specs.declared.under.Sought.{Sought}
 use Rattle.cdi_index.specs.declared.under.Sought.TheVariants as sought
 use Rattle.cdi_index.specs.Made.{serves_as_alternative, words_have, words_of_bean, words_of_interceptor}
@@ -61,26 +58,3 @@ has_one ds words d = list_any (words_have (words_by ds d)) words
 -- the records of the declarations that have one of these words
 abbrev pub beans_under : List Decl → List Word → List Effective
 beans_under ds words = flat_map (entries ds) (filter (has_one ds words) ds)
-
--- ---- by positions
-
--- the records of the declaration at a position
-abbrev pub records_at : List Decl → ℕ → List Effective
-records_at ds p = option_map_or (entries ds) (slice_get ds p) []
-
--- the position of the declaration of which this is kept, where it has the word
-abbrev pub position_under : List Decl → Word → Option Kept → Option ℕ
-position_under ds word None = None
-position_under ds word (Some e) = if words_have e.made.words word then position (is_of e.key.kind e.key.name) ds else None
-
--- this is the position
-abbrev pub is_at : List Decl → Word → Option Kept → ℕ → Bool
-is_at ds word kept p = option_map_or (λ i. nat_eq i p) (position_under ds word kept) false
-
--- it is the position of one that is kept at these slots
-abbrev pub is_at_slots : List Decl → (ℕ → Option Kept) → Word → List ℕ → ℕ → Bool
-is_at_slots ds kept word slots p = list_any (λ s. is_at ds word (kept s) p) slots
-
--- of one that is listed under one of these words, and has it
-abbrev pub is_at_words : List Decl → (ℕ → Option Kept) → List Listing → List Word → ℕ → Bool
-is_at_words ds kept listings words p = list_any (λ w. is_at_slots ds kept w (under listings w) p) words

@@ -1,7 +1,6 @@
 //! The declarations, with what is made of each.
 ghost use Rattle.std.specs.Prelude.{◌≡◌, ◌&&◌, false, filter, flat_map, map, slice_get, option_map, Some, None, IfOk, IfSome, OnOk, OnErr};
 ghost use Rattle.std.specs.Option.{option_copied, option_map_or};
-ghost use Rattle.cdi_positions.specs.Marks.{is_marked};
 ghost use Rattle.cdi_match.specs.Chain.{has};
 ghost use Rattle.cdi_effective.specs.Beans.{beans, entries};
 ghost use Rattle.cdi_effective.specs.Records.{records_in};
@@ -13,7 +12,7 @@ ghost use Rattle.cdi_index.specs.State.{committed, drafted_from, empty, staged_b
 ghost use Rattle.cdi_index.specs.Asked.{is_asked};
 ghost use Rattle.cdi_index.specs.Candidates.{AreFirst};
 ghost use Rattle.cdi_index.specs.Told.{Tells};
-ghost use Rattle.cdi_index.specs.Under.{beans_under, bindings_in, first_bindings, has_name, has_one, is_sought, observes_one, records_at};
+ghost use Rattle.cdi_index.specs.Under.{beans_under, bindings_in, first_bindings, has_name, has_one, is_sought, observes_one};
 
 use crate::affected::{copy_keys, readers_of};
 use crate::asked::{Asked, is_asked_at};
@@ -25,12 +24,9 @@ use crate::next_index::NextIndex;
 use crate::prepare::{Next, prepare};
 use crate::replaced::install_turns;
 use crate::shelf::Shelf;
-use crate::under::{
-    Sought, only_slot, positions_under, sought_at_slot, sought_under, words_observed,
-};
+use crate::under::{Sought, decls_under, only_slot, sought_at_slot, sought_under, words_observed};
 use cdi_effective::Effective;
 use cdi_model::{Decl, DeclKey, Decls, Kind, Name, Qual};
-use cdi_positions::PositionSet;
 use cdi_postings::{Postings, Reason, Word};
 use std::alloc::{AllocError, Global};
 use std::marker::Model;
@@ -154,21 +150,11 @@ impl Index {
         first_bindings(self.records(class))
     }
 
-    /// The records of the declaration at a position: none where it is no bean declaration. It takes no memory.
-    pub fn records_at(&self, position: usize) -> &[Effective]
-        ensures { result.now ≡ records_at self.now.decls position }
+    /// The declarations that have one of some words, in order. It takes memory for lists of them, and looks at these alone.
+    pub fn decls_under(&self, alloc: Global, words: &[Word]) -> Result<Vec<&Decl>, AllocError>
+        ensures { IfOk result (λ list. map (λ d. d.now) list.items ≡ filter (has_one self.now.decls words.now) self.now.decls) }
     {
-        match self.decls.at(position) {
-            Some(Decl::Bean(bean)) => self.records(&bean.name),
-            _ => &[],
-        }
-    }
-
-    /// The positions of the declarations that have one of some words. It takes no memory, and looks at these alone.
-    pub fn positions_under(&self, words: &[Word]) -> PositionSet
-        ensures { (p : _) → is_marked result p ≡ option_map_or (has_one self.now.decls words.now) (slice_get self.now.decls p) false }
-    {
-        positions_under(&self.decls, &self.shelf, &self.postings, words)
+        decls_under(alloc, &self.decls, &self.shelf, &self.postings, words)
     }
 
     /// Whether a declaration asks for it. It takes no memory, and looks at declarations that ask for the type alone.

@@ -1,7 +1,6 @@
 //! The declarations as they are after the next commit.
 ghost use Rattle.std.specs.Prelude.{◌≡◌, false, filter, flat_map, map, option_map, slice_get, IfOk};
 ghost use Rattle.std.specs.Option.{option_copied, option_map_or};
-ghost use Rattle.cdi_positions.specs.Marks.{is_marked};
 ghost use Rattle.cdi_model.specs.DeclList.{AreDistinct};
 ghost use Rattle.cdi_match.specs.Chain.{has};
 ghost use Rattle.cdi_effective.specs.Beans.{beans, entries};
@@ -10,7 +9,7 @@ ghost use Rattle.cdi_index.specs.Asked.{is_asked};
 ghost use Rattle.cdi_index.specs.Next.{IsAfter};
 ghost use Rattle.cdi_index.specs.Replaced.{keys_turned};
 ghost use Rattle.cdi_index.specs.Slots.{entry_kept, kept_of_one, unless_among};
-ghost use Rattle.cdi_index.specs.Under.{bindings_in, has_one, observes_one, records_at};
+ghost use Rattle.cdi_index.specs.Under.{bindings_in, has_one, observes_one};
 
 use crate::asked::{Asked, is_asked_at};
 use crate::change::Change;
@@ -18,10 +17,9 @@ use crate::index::{first_bindings, own_records};
 use crate::prepare::Next;
 use crate::replaced::{made_after, records_turned};
 use crate::shelf::{Entry, Shelf, Slots};
-use crate::under::{Sought, positions_under, sought_under, words_observed};
+use crate::under::{Sought, decls_under, sought_under, words_observed};
 use cdi_effective::Effective;
 use cdi_model::{Decl, DeclKey, Decls, Kind, Name, Qual, Seq};
-use cdi_positions::PositionSet;
 use cdi_postings::{Postings, Reason, Word};
 use indexmap::IndexSet;
 use std::alloc::{AllocError, Global};
@@ -173,11 +171,12 @@ impl<'a> NextIndex<'a> {
         )
     }
 
-    /// The positions of the declarations that have one of some words. It takes no memory, and looks at these alone.
-    pub fn positions_under(&self, words: &[Word]) -> PositionSet
-        ensures { (p : _) → is_marked result p ≡ option_map_or (has_one self.now words.now) (slice_get self.now p) false }
+    /// The declarations that have one of some words, in order. It takes memory for lists of them, and looks at these alone.
+    pub fn decls_under(&self, alloc: Global, words: &[Word]) -> Result<Vec<&'a Decl>, AllocError>
+        ensures { IfOk result (λ list. map (λ d. d.now) list.items ≡ filter (has_one self.now words.now) self.now) }
     {
-        positions_under(&self.slots.next.decls, &self.slots, self.postings, words)
+        let decls = &self.slots.next.decls;
+        decls_under(alloc, decls, &self.slots, self.postings, words)
     }
 
     /// The beans that have a type, enabled or not, in order. It takes memory for a list of them, and looks at the beans of
@@ -214,15 +213,5 @@ impl<'a> NextIndex<'a> {
     {
         let words = words_observed(alloc, types)?;
         sought_under(alloc, &self.slots, self.postings, &words, Sought::Each)
-    }
-
-    /// The records of the declaration at a position: none where it is no bean declaration. It takes no memory.
-    pub fn records_at(&self, position: usize) -> &'a [Effective]
-        ensures { result.now ≡ records_at self.now position }
-    {
-        match self.slots.next.decls.at(position) {
-            Some(Decl::Bean(bean)) => self.records(&bean.name),
-            _ => &[],
-        }
     }
 }

@@ -1,7 +1,7 @@
 //! The declarations that are under words, and the beans that are found by these.
 ghost use Rattle.std.specs.Prelude.{◌≡◌, ◌<◌, ◌||◌, ◌++◌, ℕ, List, Some, filter, flat_map, length, map, option_map, IfOk, IfSome, OnOk};
-ghost use Rattle.cdi_model.specs.DeclList.{limit};
-ghost use Rattle.cdi_positions.specs.Marks.{is_marked};
+ghost use Rattle.std.specs.Option.{option_to_list};
+ghost use Rattle.cdi_model.specs.DeclList.{find_decl};
 ghost use Rattle.cdi_index.specs.Made.{words_have};
 ghost use Rattle.cdi_index.specs.Slots.{entry_kept};
 ghost use Rattle.cdi_index.specs.declared.shelf.Kept.{Kept as AnyKept};
@@ -9,15 +9,14 @@ ghost use Rattle.cdi_postings.specs.Listing.{under};
 ghost use Rattle.cdi_postings.specs.Words.{word_at};
 ghost use Rattle.cdi_postings.specs.declared.word.Word.{Word as AnyWord};
 ghost use Rattle.cdi_postings.specs.declared.word.Reason.TheVariants as reasons;
-ghost use Rattle.cdi_index.specs.InOrder.{kept_under, kept_with, records_kept, with_word, AreInOrder, AreSought};
-ghost use Rattle.cdi_index.specs.Under.{has_name, is_sought, is_at_slots, is_at_words, position_under};
+ghost use Rattle.cdi_index.specs.InOrder.{kept_under, kept_with, records_kept, with_word, AreInOrder, AreSought, AreUnder};
+ghost use Rattle.cdi_index.specs.Under.{has_name, is_sought};
 
 use crate::index::own_records;
 use crate::making::{Made, serves_as_alternative};
 use crate::shelf::{Entry, Slots};
 use cdi_effective::Effective;
-use cdi_model::{Decls, Name};
-use cdi_positions::PositionSet;
+use cdi_model::{Decl, DeclKey, Decls, Name};
 use cdi_postings::{Postings, Reason, Word};
 use std::alloc::{AllocError, Global};
 
@@ -26,54 +25,6 @@ fn has_word(made: &Made, word: &Word) -> bool
     ensures { result ≡ words_have made.now.words word.now }
 {
     made.words.as_slice().iter().any(|other| *other == *word)
-}
-
-/// The position of the declaration of which this is kept, where it has a word.
-fn position_under(decls: &Decls, entry: Option<Entry<'_>>, word: &Word) -> Option<usize>
-    ensures value { result ≡ position_under decls.now word.now (option_map entry_kept entry.entry) }
-    ensures bound { IfSome result (λ i. i < limit) }
-{
-    let entry = entry?;
-    if !has_word(entry.made, word) {
-        return None;
-    }
-    decls.position(entry.key.kind, &entry.key.name)
-}
-
-/// Marks the positions of the declarations at some slots that have a word.
-fn mark_slots<S: Slots>(
-    decls: &Decls,
-    shelved: &S,
-    slots: &[u64],
-    word: &Word,
-    positions: &mut PositionSet,
-)
-    requires { length positions.old ≡ limit }
-    ensures size { length positions.new ≡ limit }
-    ensures marks { (p : _) → is_marked positions.new p
-        ≡ (is_marked positions.old p || is_at_slots decls.now (S.kept shelved.now) word.now slots.now p) }
-{
-    for slot in slots {
-        if let Some(position) = position_under(decls, shelved.at(*slot), word) {
-            positions.insert(position);
-        }
-    }
-}
-
-/// The positions of the declarations that are listed under some words, and have one of them.
-pub(crate) fn positions_under<S: Slots>(
-    decls: &Decls,
-    shelved: &S,
-    postings: &Postings,
-    words: &[Word],
-) -> PositionSet
-    ensures { (p : _) → is_marked result p ≡ is_at_words decls.now (S.kept shelved.now) postings.now words.now p }
-{
-    let mut positions = PositionSet::new();
-    for word in words {
-        mark_slots(decls, shelved, postings.under(*word), word, &mut positions);
-    }
-    positions
 }
 
 /// Which beans are sought.
@@ -247,6 +198,39 @@ pub(crate) fn sought_under<'a, S: Slots>(
     let mut list = Vec::new(alloc);
     for entry in entries.as_slice() {
         push_sought(sought, records_of(shelved, *entry), &mut list)?;
+    }
+    Ok(list)
+}
+
+/// Appends the declaration of a key, if there is one.
+fn push_decl<'a>(
+    decls: &'a Decls,
+    key: &DeclKey,
+    list: &mut Vec<&'a Decl>,
+) -> Result<(), AllocError>
+    ensures { OnOk result (map (λ d. d.now) list.new.items
+        ≡ map (λ d. d.now) list.old.items ++ option_to_list (find_decl key.now.kind key.now.name decls.now)) }
+{
+    if let Some(decl) = decls.get(key.kind, &key.name) {
+        list.push(decl)?;
+    }
+    Ok(())
+}
+
+/// The declarations that are listed under some words, and have one of them, in order.
+pub(crate) fn decls_under<'a, S: Slots>(
+    alloc: Global,
+    decls: &'a Decls,
+    shelved: &S,
+    postings: &Postings,
+    words: &[Word],
+) -> Result<Vec<&'a Decl>, AllocError>
+    ensures { IfOk result (λ list. AreUnder (S.kept shelved.now) postings.now words.now decls.now (map (λ d. d.now) list.items)) }
+{
+    let entries = in_order(listed_under(alloc, shelved, postings, words)?);
+    let mut list = Vec::with_capacity(alloc, entries.len())?;
+    for entry in entries.as_slice() {
+        push_decl(decls, entry.key, &mut list)?;
     }
     Ok(list)
 }

@@ -12,7 +12,6 @@ pub use Rattle.base_lists.specs.Sorting.{sorted_by}
 pub use Rattle.base_lists.proofs.Any.{any-same}
 pub use Rattle.base_numbers.proofs.Texts.{one_text, same_text, bytes_eq-turned}
 pub use Rattle.base_options.proofs.Booleans.{same-bool}
-pub use Rattle.cdi_positions.specs.Marks.{is_marked, marked_from}
 pub use Rattle.cdi_model.specs.{declared.decl.Decl.Decl, declared.place.BeanPlace.BeanPlace, declared.decl.BeanDecl.BeanDecl}
 pub use Rattle.cdi_model.specs.{declared.quals.Qual.Qual, declared.edit.Edit.Edit, declared.key.DeclKey.DeclKey, Decl.key_of, Decl.kind_of}
 pub use Rattle.cdi_model.specs.{Decl.name_of_decl, Edits.edited_all, Edits.edited_keys, Edits.is_among, Edits.Avoid, SameUse.same_quals}
@@ -36,7 +35,7 @@ pub use Rattle.cdi_index.specs.Made.{words_as_alternative, words_have, words_nam
 pub use Rattle.cdi_index.specs.Made.{words_of_uses, made_of, made_of_bean, made_of_binding, made_of_interceptor, reads, made_of_type}
 pub use Rattle.cdi_index.specs.Under.{words_by, has_one, observes_one}
 pub use Rattle.cdi_index.proofs.{NamedLemmas.among-named, SoughtLemmas.words-append, AskedLemmas.words-of-asker}
-pub use Rattle.cdi_index.proofs.UnderLemmas.{key-found, walk}
+pub use Rattle.cdi_index.proofs.UnderLemmas.{key-found}
 pub use Rattle.cdi_intercept.specs.{Sets.has_place, Sets.places_of, Sets.set_by, Bindings.in_text_order, Bindings.set_at, Lent.lent_in}
 pub use Rattle.cdi_intercept.specs.Chains.{chain_of, part_for, is_enabled, surrounds}
 unfoldable pub use Rattle.cdi_intercept.specs.Chains.{in_order, chain_by}
@@ -48,19 +47,19 @@ pub use Rattle.cdi_observe.specs.{Keys.EventKey, Keys.ChoiceKey, Keys.Key, decla
 pub use Rattle.cdi_observe.specs.{Kept.with_known, Observers.Observer, Observers.declared_by, Observers.observers, Observers.observes}
 unfoldable pub use Rattle.cdi_observe.specs.{Wanted.is_wanted, Kept.after_key, Observers.observing}
 pub use Rattle.cdi_observe.proofs.{KeyLemmas.same_place-decides, KeptLemmas.after_known}
-pub use Rattle.cdi_seen.specs.Rests.{IsPresent, own_bindings}
+pub use Rattle.cdi_seen.specs.{Rests.IsPresent, Rests.own_bindings, Words.types_observed}
 pub use Rattle.cdi_seen.proofs.PresentLemmas.{all_present, found_any, witness, each_all}
 pub use Rattle.cdi_seen.specs.Touched.{is_touched, ByEvent, see_same_beans, ByChain}
 pub use Rattle.cdi_seen.proofs.SameLemmas.{touched_where_seen_differs}
-pub use Rattle.cdi_live.specs.ChainGone.{is_place_of, goes, is_kept_chain, ArePlaces, Chains, enabled_at, words_bound, is_gone_chain}
+pub use Rattle.cdi_live.specs.ChainGone.{is_place_of, goes, is_kept_chain, ArePlaces, Chains, enabled_in, words_bound, is_gone_chain}
 pub use Rattle.cdi_live.specs.{ChainGone.AreGoneChains, Dropped.asks_before, Dropped.is_dropped_at}
-pub use Rattle.cdi_live.specs.{Compared.IsBetween, declared.sides.Sides.Sides, EventSuspects.words_edited}
+pub use Rattle.cdi_live.specs.{Compared.IsBetween, declared.sides.Sides.Sides, Users.words_edited}
 pub use Rattle.cdi_live.specs.{State.knows_in, State.kept_in, State.State, declared.memos.Memos.Memos, Gone.is_gone, Gone.are_alike}
 pub use Rattle.cdi_live.specs.{Gone.sees_other, declared.gone.Gone.Gone, declared.chain_gone.GoneChain.GoneChain, EventDropped.drops_before}
 pub use Rattle.cdi_live.specs.{EventDropped.is_dropped_in, Known.KnownAreWanted}
-pub use Rattle.cdi_live.specs.Suspects.{holds, suspects, asked_in, concerned, types_of_edited, types_of_key, types_of_records}
+pub use Rattle.cdi_live.specs.Suspects.{holds, suspects, asked_in, concerned, types_of_key, types_of_records}
 unfoldable pub use Rattle.cdi_live.specs.{Suspects.asked_types, EventSuspects.fired_types, EventDropped.is_dropped_by}
 pub use Rattle.cdi_live.specs.EventCompared.{is_touched_of, Events, is_touched_among}
-pub use Rattle.cdi_live.specs.EventSuspects.{is_suspect, event_types, fired_at, fired_in, may_have, observed_at, observed_by_key}
+pub use Rattle.cdi_live.specs.EventSuspects.{is_suspect, event_types, fired_in, may_have, observed_by_key}
 pub use Rattle.cdi_live.specs.ChainSuspects.{is_chain_suspect, brings_to, class_named, classes_bound, is_bound_by, is_intercepted_by}
 unfoldable pub use Rattle.cdi_resolve.specs.Choices.{chosen}

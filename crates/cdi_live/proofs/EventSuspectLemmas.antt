@@ -8,10 +8,10 @@ use Rattle.cdi_live.proofs.Common.{found_any, witness, ◌++◌, unwrap_or, opti
 use Rattle.cdi_live.proofs.Common.{same_word, word_at, words_have, words_named, words_named_in, words_of_observer, words_of_record}
 use Rattle.cdi_live.proofs.Common.{words_of_uses, words_by, among-named, Tells, is_touched, or_parts, key_at, Avoid, Chain, as_bean}
 use Rattle.cdi_live.proofs.Common.{find_bean, made_of, reads, reads_in, has_one, touched_where_seen_differs, each_all, holds, slice_get}
-use Rattle.cdi_live.proofs.Common.{arith, beans, is_marked, marked_from, EventKey, types_of, sorted_by, Observer, declared_by, observers}
+use Rattle.cdi_live.proofs.Common.{arith, beans, EventKey, types_of, sorted_by, Observer, declared_by, observers}
 use Rattle.cdi_live.proofs.Common.{observes, observing, same_quals, same_quals-decides, is_suspect, records, records_declared, records_in}
-use Rattle.cdi_live.proofs.Common.{same_word_equiv, made_of_type, words-of-asker, walk, event_sees, ByEvent, event_types, fired_at}
-use Rattle.cdi_live.proofs.Common.{fired_in, fired_types, may_have, observed_at, observed_by_key, words_edited, same-bool, words-append}
+use Rattle.cdi_live.proofs.Common.{same_word_equiv, made_of_type, words-of-asker, event_sees, ByEvent, event_types}
+use Rattle.cdi_live.proofs.Common.{fired_in, fired_types, may_have, observed_by_key, words_edited, same-bool, words-append}
 use Rattle.cdi_live.proofs.Common.{same_key}
 use Rattle.std.proofs.Common.{ℤ}
 use Rattle.cdi_model.proofs.{EditLemmas.edits_keep_others, GivingLemmas.edits_keep_given}
@@ -30,8 +30,10 @@ use Rattle.cdi_observe.specs.{Observers.observer_id, Observers.priority_of, Sees
 use Rattle.cdi_seen.specs.Gives.{is_before_observer, observer_given, ranked_observer, unranked}
 use Rattle.cdi_seen.specs.{Rests.use_reads, Words.names_under, Words.types_observed}
 use Rattle.cdi_seen.proofs.{EventLemmas.event_by_words, EventLemmas.observers_by_declaration, EventLemmas.observers_of, UseLemmas.read_same}
-use Rattle.cdi_live.proofs.ListedLemmas.{holds-append, of-passing}
-use Rattle.cdi_live.specs.EventSuspects.{concerned_types, is_fired, may_have_one, observed_of, uses_edited, word_edited}
+use Rattle.cdi_live.proofs.ListedLemmas.{holds-append}
+use Rattle.cdi_live.proofs.UserLemmas.{IsUsed, used, user-has, word}
+use Rattle.cdi_live.specs.{EventSuspects.concerned_types, EventSuspects.is_fired, EventSuspects.may_have_one, EventSuspects.observed_of}
+use Rattle.cdi_live.specs.Users.{users_of_edited}
 
 -- ---- lists of names
 
@@ -60,69 +62,19 @@ same-passing p xs ys same = same-bool (list_any p xs) (list_any p ys)
 
 -- ---- what is computed are the suspects
 
-pub suspects-are : (ds es : List Decl) (edited affected : List DeclKey) (kept : List (List ℕ)) (words : List Word) (marks : List Bool)
-    (names : List (List ℕ)) (t : List ℕ) → words ≡ words_edited edited
-    → ((p : ℕ) → is_marked marks p ≡ option_map_or (has_one ds words) (slice_get ds p) false)
+pub suspects-are : (ds es : List Decl) (edited affected : List DeclKey) (kept : List (List ℕ)) (users : List Decl) (names : List (List ℕ))
+    (t : List ℕ) → users ≡ users_of_edited ds edited
     → ((x : List ℕ) → list_any (bytes_eq x) names
-    ≡ (holds (flat_map (observed_by_key ds es) affected) x || holds (flat_map (observed_at ds) (marked_from 0 marks)) x))
-    → ((is_among affected (key_at kinds.Type t) || holds (flat_map (fired_at ds) (marked_from 0 marks)) t)
-    || list_any (λ x. may_have ds kept x t) names)
+    ≡ (holds (flat_map (observed_by_key ds es) affected) x || holds (flat_map types_observed users) x))
+    → ((is_among affected (key_at kinds.Type t) || holds (flat_map fired_types users) t) || list_any (λ x. may_have ds kept x t) names)
     ≡ is_suspect ds es edited affected kept t
-suspects-are ds es edited affected kept words marks names t are marked same =
-    let fired : flat_map (fired_at ds) (marked_from 0 marks) ≡ flat_map fired_types (filter (uses_edited ds edited) ds) =
-    walk fired_types (has_one ds words) ds 0 marks ds (λ i. ap (slice_get ds) (omega arith)) marked
-    ∙ ap (λ ws. flat_map fired_types (filter (has_one ds ws) ds)) are in
-    let observed : flat_map (observed_at ds) (marked_from 0 marks) ≡ flat_map types_observed (filter (uses_edited ds edited) ds) =
-    walk types_observed (has_one ds words) ds 0 marks ds (λ i. ap (slice_get ds) (omega arith)) marked
-    ∙ ap (λ ws. flat_map types_observed (filter (has_one ds ws) ds)) are in
+suspects-are ds es edited affected kept users names t are same =
     let by_key : List (List ℕ) = flat_map (observed_by_key ds es) affected in
     let all : (x : List ℕ) → list_any (bytes_eq x) names ≡ has (concerned_types ds es edited affected) x =
-    λ x. same x ∙ ap (λ xs. holds by_key x || holds xs x) observed
-    ∙ sym (holds-append by_key (flat_map types_observed (filter (uses_edited ds edited) ds)) x) in
-    λ i. (is_among affected (key_at kinds.Type t) || holds (fired i) t)
+    λ x. same x ∙ ap (λ us. holds by_key x || holds (flat_map types_observed us) x) are
+    ∙ sym (holds-append by_key (flat_map types_observed (users_of_edited ds edited)) x) in
+    λ i. (is_among affected (key_at kinds.Type t) || holds (flat_map fired_types (are i)) t)
     || same-passing (λ x. may_have ds kept x t) names (concerned_types ds es edited affected) all i
-
--- ---- words
-
-abbrev word : List ℕ → Word
-word q = word_at reasons.Qualifies q
-
--- an edited qualifier passes what is true of its word
-edited-word : (p : Word → Bool) (keys : List DeclKey) (q : List ℕ) → is_among keys (key_at kinds.Qualifier q) ≡ true → p (word q) ≡ true
-    → list_any p (words_edited keys) ≡ true
-edited-word p [] q among h = absurd (false≢true among)
-edited-word p (k ∷ keys) q among h =
-    list_any-append p (word_edited k) (words_edited keys)
-    ∙ elim (or_cases (same_key k (key_at kinds.Qualifier q)) (is_among keys (key_at kinds.Qualifier q)) among) [
-      | inl here ↦ or_left (list_any p (word_edited k)) (list_any p (words_edited keys))
-          (ap (λ j. list_any p (word_edited j)) (key_exact k (key_at kinds.Qualifier q) here) ∙ or_left (p (word q)) false h)
-      | inr there ↦ or_right (list_any p (word_edited k)) (list_any p (words_edited keys)) (edited-word p keys q there h)
-    ]
-
--- a qualifier on which uses rest is a word of theirs
-record IsUsed (key : DeclKey) (words : List Word) : Type 0 where
-  name : List ℕ
-  is : key ≡ key_at kinds.Qualifier name
-  has : words_have words (word name) ≡ true
-
-used : (us : List Qual) (key : DeclKey) → is_among (use_reads uses.Qualifier us) key ≡ true → IsUsed key (words_of_uses us)
-used [] key h = absurd (false≢true h)
-used (u ∷ us) key h = elim (or_cases (same_key (key_at kinds.Qualifier u.name) key) (is_among (use_reads uses.Qualifier us) key) h) [
-  | inl here ↦ record {
-    name = u.name;
-    is = sym (key_exact (key_at kinds.Qualifier u.name) key here);
-    has = or_left (same_word (word u.name) (word u.name)) (words_have (words_of_uses us) (word u.name))
-        (same_word_equiv.refl (word u.name));
-  }
-  | inr there ↦
-      let it = used us key there in
-      record {
-        name = it.name;
-        is = it.is;
-        has = or_right (same_word (word u.name) (word it.name))
-            (words_have (words_of_uses us) (word it.name)) it.has;
-      }
-]
 
 -- ---- the types of an event
 
@@ -182,7 +134,7 @@ module _ (edits : List Edit) (ds : List Decl) (told : List DeclKey) (distinct : 
   by_keys = flat_map (observed_by_key ds es) told
 
   abbrev by_uses : List (List ℕ)
-  by_uses = flat_map types_observed (filter (uses_edited ds keys) ds)
+  by_uses = flat_map types_observed (users_of_edited ds keys)
 
   parts : ((is_among told (key_at kinds.Type t) || is_fired ds keys t) ≡ false)
       × (may_have_one ds kept (concerned_types ds es keys told) t ≡ false)
@@ -221,18 +173,11 @@ module _ (edits : List Edit) (ds : List Decl) (told : List DeclKey) (distinct : 
 
   -- ---- its qualifiers
 
-  -- a declaration with the word of an edited qualifier uses it
-  uses-one : (d : Decl) (q : List ℕ) → is_among keys (key_at kinds.Qualifier q) ≡ true → words_have (words_by ds d) (word q) ≡ true
-      → uses_edited ds keys d ≡ true
-  uses-one d q edited has = edited-word (words_have (words_by ds d)) keys q edited has
-
   used-types : (d : Decl) (q x : List ℕ) → IsPresent ds d → is_among keys (key_at kinds.Qualifier q) ≡ true
       → words_have (words_by ds d) (word q) ≡ true → holds (types_observed d) x ≡ true → has types x ≡ false
   used-types d q x there edited has h = other-types x
       (holds-append by_keys by_uses x ∙ or_right (holds by_keys x) (holds by_uses x)
-      (of-passing types_observed (uses_edited ds keys) x ds
-      (found_any (kind_of d) (name_of_decl d) ds d (λ d. uses_edited ds keys d && holds (types_observed d) x) there
-      (and_from (uses_edited ds keys d) (holds (types_observed d) x) (uses-one d q edited has) h))))
+      (user-has ds keys types_observed d q x there edited has h))
 
   -- ---- what each declaration gives
 
@@ -429,12 +374,8 @@ module _ (edits : List Edit) (ds : List Decl) (told : List DeclKey) (distinct : 
         by true e =
             let it = witness (IsPresent ds) (asks_for questions.Event t us) ds (all_present ds distinct) wanted in
             let fires = fires-named (mentions it.0) (word q) it.2 in
-            let d = it.0 in
-            absurd (false≢true (sym first.1 ∙ of-passing fired_types (uses_edited ds keys) t ds
-            (found_any (kind_of d) (name_of_decl d) ds d (λ d. uses_edited ds keys d && holds (fired_types d) t) it.1
-            (and_from (uses_edited ds keys d) (holds (fired_types d) t)
-            (uses-one d q edited (words-of-asker questions.Event t us ds d (word q) it.2 (among-named d (word q) (fires.words e))))
-            fires.fires))))
+            absurd (false≢true (sym first.1 ∙ user-has ds keys fired_types it.0 q t it.1 edited
+            (words-of-asker questions.Event t us ds it.0 (word q) it.2 (among-named it.0 (word q) (fires.words e))) fires.fires))
 
     declared-same : (vs : List Qual)
         → ((q : List ℕ) → is_among keys (key_at kinds.Qualifier q) ≡ true → words_have (words_of_uses vs) (word q) ≡ false)

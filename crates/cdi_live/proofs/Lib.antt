@@ -2,7 +2,7 @@ mod Common
 mod ListedLemmas
 pub mod AskedLemmas
 pub mod PartLemmas
-mod CompareLemmas
+mod UserLemmas
 mod SuspectLemmas
 mod GoneLemmas
 mod LiveLemmas

@@ -23,11 +23,6 @@ take-whole [] (suc i) none = refl
 take-whole (x ∷ xs) zero none = absurd (let no : Some x ≡ None = none in cc)
 take-whole (x ∷ xs) (suc i) none = ap (λ ys. x ∷ ys) (take-whole xs i none)
 
-pub within : {X : Type 0} (xs : List X) (i : ℕ) (x : X) → slice_get xs i ≡ Some x → i < length xs
-within [] i x at = absurd (let no : None ≡ Some x = at in cc)
-within (y ∷ ys) zero x at = omega arith
-within (y ∷ ys) (suc i) x at = omega (arith, within ys i x at)
-
 pub regroup : (g b l x : Bool) → ((g || (b && l)) || (b && x)) ≡ (g || (b && (l || x)))
 regroup g b l x = grind arith
 

@@ -8,7 +8,7 @@ use Rattle.cdi_live.proofs.Common.{own_records, Effective, Word, same_word, word
 use Rattle.cdi_live.proofs.Common.{words_as_alternative, words_of_bindings, words_of_observer, words_of_record, words_of_uses, words_by, among-named, Tells}
 use Rattle.cdi_live.proofs.Common.{or_parts, key_at, Avoid, as_bean, has_one, each_all, holds, entries, same_quals, same_quals-decides}
 use Rattle.cdi_live.proofs.Common.{records, records_declared, records_in, same_word_equiv, words-of-asker, required, are_alike, suspects}
-use Rattle.cdi_live.proofs.Common.{offers, see_same_beans, asked_in, asked_types, concerned, types_of_edited, types_of_key}
+use Rattle.cdi_live.proofs.Common.{offers, see_same_beans, asked_in, asked_types, concerned, types_of_key}
 use Rattle.cdi_live.proofs.Common.{types_of_records, words-append, same_key}
 use Rattle.cdi_model.specs.declared.decl.Decl.TheVariants as decls
 use Rattle.cdi_model.specs.declared.decl.Kind.TheVariants as kinds
@@ -19,7 +19,9 @@ use Rattle.cdi_resolve.specs.Sees.{seen_bean}
 use Rattle.cdi_seen.specs.{Contribution.contribution, Contribution.seen_of, Touched.declare_alike}
 use Rattle.cdi_seen.proofs.{ContributionLemmas.seen_same, TouchedLemmas.edits_keep_declared, TouchedLemmas.edits_keep_seen}
 use Rattle.cdi_seen.proofs.GatherLemmas.{quals_are_own}
-use Rattle.cdi_live.proofs.ListedLemmas.{holds-append, of-passing}
+use Rattle.cdi_live.proofs.ListedLemmas.{holds-append}
+use Rattle.cdi_live.proofs.UserLemmas.{IsUsed, used, user-has, word}
+use Rattle.cdi_live.specs.{Suspects.types_given, Users.users_of_edited}
 
 -- ---- lists of names
 
@@ -48,37 +50,6 @@ none-seen list t (r ∷ rs) none =
     by false h is more = more
 
 -- ---- the qualifiers of records
-
-abbrev word : List ℕ → Word
-word q = word_at reasons.Qualifies q
-
--- what some uses read is a qualifier, and a word of theirs
-record IsUsed (key : DeclKey) (words : List Word) : Type 0 where
-  name : List ℕ
-  is : key ≡ key_at kinds.Qualifier name
-  has : words_have words (word name) ≡ true
-
-used : (us : List Qual) (key : DeclKey) → is_among (map (λ u. key_at kinds.Qualifier u.name) us) key ≡ true → IsUsed key (words_of_uses us)
-used [] key h = absurd (false≢true h)
-used (u ∷ us) key h = elim (or_cases (same_key (key_at kinds.Qualifier u.name) key)
-    (is_among (map (λ u. key_at kinds.Qualifier u.name) us) key) h) [
-      | inl here ↦ record {
-        name = u.name;
-        is = sym (key_exact (key_at kinds.Qualifier u.name) key here);
-        has = or_left (same_word (word u.name) (word u.name)) (words_have (words_of_uses us) (word u.name)) (same-word u.name);
-      }
-      | inr there ↦
-          let it = used us key there in
-          record {
-            name = it.name;
-            is = it.is;
-            has = or_right (same_word (word u.name) (word it.name))
-                (words_have (words_of_uses us) (word it.name)) it.has;
-          }
-    ]
-  where
-    same-word : (n : List ℕ) → same_word (word n) (word n) ≡ true
-    same-word n = same_word_equiv.refl (word n)
 
 among-append : (xs ys : List DeclKey) (key : DeclKey) → is_among (xs ++ ys) key ≡ (is_among xs key || is_among ys key)
 among-append xs ys key = list_any-append (λ k. same_key k key) xs ys
@@ -129,9 +100,12 @@ module _ (edits : List Edit) (ds : List Decl) (told : List DeclKey) (distinct : 
   abbrev keys : List DeclKey
   keys = edited_keys edits
 
-  both : (holds (flat_map (types_of_key ds es) told) t ≡ false) × (holds (flat_map (types_of_edited ds) keys) t ≡ false)
-  both = or_parts (holds (flat_map (types_of_key ds es) told) t) (holds (flat_map (types_of_edited ds) keys) t)
-      (sym (holds-append (flat_map (types_of_key ds es) told) (flat_map (types_of_edited ds) keys) t) ∙ clear)
+  abbrev by_uses : List (List ℕ)
+  by_uses = flat_map (concerned ds) (users_of_edited ds keys)
+
+  both : (holds (flat_map (types_of_key ds es) told) t ≡ false) × (holds by_uses t ≡ false)
+  both = or_parts (holds (flat_map (types_of_key ds es) told) t) (holds by_uses t)
+      (sym (holds-append (flat_map (types_of_key ds es) told) by_uses t) ∙ clear)
 
   -- the beans of a told declaration have another type, before and after
   told-clear : (class : List ℕ) → is_among told (key_at kinds.Bean class) ≡ true
@@ -147,10 +121,7 @@ module _ (edits : List Edit) (ds : List Decl) (told : List DeclKey) (distinct : 
     where
       by : (b : Bool) → holds (concerned ds d) t ≡ b → b ≡ false
       by false e = refl
-      by true e = absurd (false≢true (sym (of-key (types_of_edited ds) keys (key_at kinds.Qualifier q) t both.1 edited)
-          ∙ of-passing (concerned ds) (has_one ds (word q ∷ [])) t ds
-          (found_any (kind_of d) (name_of_decl d) ds d (λ d. has_one ds (word q ∷ []) d && holds (concerned ds d) t) there
-          (and_from (has_one ds (word q ∷ []) d) (holds (concerned ds d) t) (or_left (words_have (words_by ds d) (word q)) false has) e))))
+      by true e = absurd (false≢true (sym both.1 ∙ user-has ds keys (concerned ds) d q t there edited has e))
 
   in-records : (list : List Decl) (b : BeanDecl) → IsPresent list (decls.Bean b) → records_in list b.name ≡ records list b
   unfolding records_in
@@ -167,8 +138,9 @@ module _ (edits : List Edit) (ds : List Decl) (told : List DeclKey) (distinct : 
   bean-clear b there has key edited = by (is_among (qualifier_reads (records ds b)) key) refl
     where
       concerns : holds (concerned ds (decls.Bean b)) t ≡ true
-      concerns = holds-append (types_of_records (records ds b)) (asked_types (decls.Bean b)) t
-          ∙ or_left (holds (types_of_records (records ds b)) t) (holds (asked_types (decls.Bean b)) t) has
+      concerns = holds-append (types_given ds (decls.Bean b)) (asked_types (decls.Bean b)) t
+          ∙ or_left (holds (types_given ds (decls.Bean b)) t) (holds (asked_types (decls.Bean b)) t)
+          (ap (λ rs. holds (types_of_records rs) t) (in-records ds b there) ∙ has)
 
       by : (c : Bool) → is_among (qualifier_reads (records ds b)) key ≡ c → c ≡ false
       by false e = refl
@@ -284,8 +256,8 @@ module _ (edits : List Edit) (ds : List Decl) (told : List DeclKey) (distinct : 
             let asks = asks-named (mentions it.0) (word q) it.2 in
             absurd (false≢true (sym (qualified-clear q it.0 it.1 edited
             (words-of-asker questions.Choice t us ds it.0 (word q) it.2 (among-named it.0 (word q) (asks.words e))))
-            ∙ holds-append (types_of_records (entries ds it.0)) (asked_types it.0) t
-            ∙ or_right (holds (types_of_records (entries ds it.0)) t) (holds (asked_types it.0) t) asks.types))
+            ∙ holds-append (types_given ds it.0) (asked_types it.0) t
+            ∙ or_right (holds (types_given ds it.0) t) (holds (asked_types it.0) t) asks.types))
 
     alike : (vs : List Qual) → ((q : List ℕ) → is_among keys (key_at kinds.Qualifier q) ≡ true
         → words_have (words_of_uses vs) (word q) ≡ false)

@@ -1,6 +1,6 @@
 -- Which kept chains an edit takes away.
 use Rattle.std.specs.Prelude.{◌≡◌, ℕ, Bool, true, false, not, ◌&&◌, ◌||◌, List, [], filter, map, is_some, Some, Ok}
-use Rattle.std.specs.List.{list_any, slice_get}
+use Rattle.std.specs.List.{list_any}
 use Rattle.std.specs.Option.{option_map_or, option_to_list}
 use Rattle.std.specs.Str.{bytes_eq}
 use Rattle.cdi_model.specs.Quals.{name_of_use}
@@ -62,6 +62,3 @@ words_bound us = map (λ u. word_at reasons.Intercepts (name_of_use u)) us
 -- the enabled interceptor that a declaration is
 abbrev pub enabled_in : Decl → List InterceptorDecl
 enabled_in d = filter is_enabled (option_to_list (as_interceptor d))
-
-abbrev pub enabled_at : List Decl → ℕ → List InterceptorDecl
-enabled_at ds p = option_map_or enabled_in (slice_get ds p) []

@@ -1,7 +1,6 @@
 -- The classes of which chains may see something else after edits.
 use Rattle.std.specs.Prelude.{ℕ, Bool, false, ◌&&◌, ◌||◌, List, [], ◌∷◌, flat_map, filter, Option, Some, None}
-use Rattle.std.specs.List.{list_any, slice_get}
-use Rattle.std.specs.Option.{option_map_or}
+use Rattle.std.specs.List.{list_any}
 use Rattle.std.specs.Str.{bytes_eq}
 use Rattle.cdi_model.specs.Decl.{key_of}
 use Rattle.cdi_model.specs.DeclKey.{key_at}
@@ -22,10 +21,6 @@ use Rattle.cdi_live.specs.Suspects.{holds}
 abbrev pub class_named : Decl → List (List ℕ)
 class_named (decls.Bean b) = b.name ∷ []
 class_named other = []
-
--- that of the declaration at a position
-abbrev pub class_named_at : List Decl → ℕ → List (List ℕ)
-class_named_at ds p = option_map_or class_named (slice_get ds p) []
 
 -- the classes of the beans that name a binding of a type, or have one by their stereotypes
 abbrev pub classes_bound : List Decl → List ℕ → List (List ℕ)

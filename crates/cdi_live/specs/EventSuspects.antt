@@ -1,10 +1,9 @@
 -- The types of events that may see something else after edits.
-use Rattle.std.specs.Prelude.{ℕ, Bool, ◌&&◌, ◌||◌, List, [], ◌∷◌, ◌++◌, map, flat_map, filter}
-use Rattle.std.specs.List.{list_any, slice_get}
+use Rattle.std.specs.Prelude.{ℕ, Bool, ◌&&◌, ◌||◌, List, [], ◌∷◌, ◌++◌, map, flat_map}
+use Rattle.std.specs.List.{list_any}
 use Rattle.std.specs.Option.{option_map_or}
 use Rattle.std.specs.Str.{bytes_eq}
 use Rattle.cdi_model.specs.declared.decl.Decl.{Decl}
-use Rattle.cdi_model.specs.declared.decl.Kind.{Kind}
 use Rattle.cdi_model.specs.declared.decl.Kind.TheVariants as kinds
 use Rattle.cdi_model.specs.declared.decl.ObserverDecl.{ObserverDecl}
 use Rattle.cdi_model.specs.declared.key.DeclKey.{DeclKey}
@@ -13,31 +12,10 @@ use Rattle.cdi_model.specs.DeclList.{find_decl}
 use Rattle.cdi_model.specs.Edits.{is_among}
 use Rattle.cdi_model.specs.Mentions.{mentions, Mention, EventOf}
 use Rattle.cdi_match.specs.Types.{object}
-use Rattle.cdi_postings.specs.declared.word.Reason.TheVariants as reasons
-use Rattle.cdi_postings.specs.declared.word.Word.{Word}
-use Rattle.cdi_postings.specs.Words.{word_at}
 use Rattle.cdi_index.specs.Made.{made_of, reads}
-use Rattle.cdi_index.specs.Under.{has_one}
 use Rattle.cdi_seen.specs.Words.{types_observed}
 use Rattle.cdi_live.specs.Suspects.{holds}
-
--- ---- who uses an edited qualifier
-
-abbrev pub word_of_edited : Kind → List ℕ → List Word
-word_of_edited kinds.Qualifier name = word_at reasons.Qualifies name ∷ []
-word_of_edited other name = []
-
--- the word of what is edited, if it is a qualifier
-abbrev pub word_edited : DeclKey → List Word
-word_edited k = word_of_edited k.kind k.name
-
--- those of the edited qualifiers
-abbrev pub words_edited : List DeclKey → List Word
-words_edited keys = flat_map word_edited keys
-
--- the declaration uses one of them
-abbrev pub uses_edited : List Decl → List DeclKey → Decl → Bool
-uses_edited ds keys d = has_one ds (words_edited keys) d
+use Rattle.cdi_live.specs.Users.{users_of_edited}
 
 -- ---- what is observed
 
@@ -53,10 +31,6 @@ observed_of ds k = option_map_or types_observed (find_decl k.kind k.name ds) []
 abbrev pub observed_by_key : List Decl → List Decl → DeclKey → List (List ℕ)
 observed_by_key ds es k = observed_of ds k ++ observed_of es k
 
--- those of the declaration at a position
-abbrev pub observed_at : List Decl → ℕ → List (List ℕ)
-observed_at ds p = option_map_or types_observed (slice_get ds p) []
-
 -- ---- what is fired
 
 -- the type of the event that is named in a place
@@ -68,13 +42,9 @@ fired_in other = []
 unfoldable pub fired_types : Decl → List (List ℕ)
 fired_types d = flat_map fired_in (mentions d)
 
--- those of the declaration at a position
-abbrev pub fired_at : List Decl → ℕ → List (List ℕ)
-fired_at ds p = option_map_or fired_types (slice_get ds p) []
-
 -- a declaration that uses an edited qualifier may fire events of the type
 abbrev pub is_fired : List Decl → List DeclKey → List ℕ → Bool
-is_fired ds edited t = holds (flat_map fired_types (filter (uses_edited ds edited) ds)) t
+is_fired ds edited t = holds (flat_map fired_types (users_of_edited ds edited)) t
 
 -- ---- which events have a type
 
@@ -90,7 +60,7 @@ may_have_one ds kept names t = list_any (λ x. may_have ds kept x t) names
 -- the types that are observed by what edits concern
 abbrev pub concerned_types : List Decl → List Decl → List DeclKey → List DeclKey → List (List ℕ)
 concerned_types ds es edited affected =
-    flat_map (observed_by_key ds es) affected ++ flat_map types_observed (filter (uses_edited ds edited) ds)
+    flat_map (observed_by_key ds es) affected ++ flat_map types_observed (users_of_edited ds edited)
 
 -- events of the type may see something else
 abbrev pub is_suspect : List Decl → List Decl → List DeclKey → List DeclKey → List (List ℕ) → List ℕ → Bool

@@ -14,7 +14,7 @@ ghost use Rattle.cdi_live.specs.Compared.{IsBetween};
 
 use crate::chain_gone::{GoneChain, push_gone_chain};
 use crate::chain_place::ChainPlace;
-use crate::interceptors::{push_bound_words, seen_at};
+use crate::interceptors::{seen_among, words_bound};
 use crate::sides::Sides;
 use cdi_intercept::{bindings_seen, has_place};
 use cdi_memo::Memo;
@@ -92,12 +92,11 @@ fn see_same_interceptors(
     if !sides.moves_interceptors {
         return Ok(true);
     }
-    let mut words = Vec::new(alloc);
-    push_bound_words(bindings, &mut words)?;
-    let before = sides.index.positions_under(&words);
-    let after = sides.next.positions_under(&words);
-    let olds = seen_at(alloc, sides.index.decls(), &before, bindings, place)?;
-    let news = seen_at(alloc, sides.next.decls(), &after, bindings, place)?;
+    let words = words_bound(alloc, bindings)?;
+    let before = sides.index.decls_under(alloc, &words)?;
+    let after = sides.next.decls_under(alloc, &words)?;
+    let olds = seen_among(alloc, &before, bindings, place)?;
+    let news = seen_among(alloc, &after, bindings, place)?;
     same_interceptors(alloc, sides.index.decls(), &olds, sides.next.decls(), &news)
 }
 

@@ -1,11 +1,10 @@
 //! The classes of which chains may be other ones after a draft.
-ghost use Rattle.std.specs.Prelude.{◌≡◌, ◌||◌, flat_map, IfOk, OnOk};
+ghost use Rattle.std.specs.Prelude.{◌≡◌, ◌||◌, flat_map, map, IfOk, OnOk};
 ghost use Rattle.std.specs.List.{list_any};
 ghost use Rattle.std.specs.Option.{option_copied};
 ghost use Rattle.std.specs.Str.{bytes_eq};
-ghost use Rattle.cdi_positions.specs.Marks.{marked_from};
 ghost use Rattle.indexmap.specs.IndexSet.{contains};
-ghost use Rattle.cdi_live.specs.ChainSuspects.{class_named, class_named_at, classes_bound, is_bound_by, is_chain_suspect, is_chain_suspect_by};
+ghost use Rattle.cdi_live.specs.ChainSuspects.{class_named, classes_bound, is_bound_by, is_chain_suspect, is_chain_suspect_by};
 ghost use Rattle.cdi_live.specs.ChainSuspects.{is_chain_suspect_of, is_intercepted, is_intercepted_by, is_intercepted_in};
 ghost use Rattle.cdi_model.specs.declared.decl.Kind.TheVariants as kinds;
 ghost use Rattle.cdi_live.specs.Suspects.{holds};
@@ -13,7 +12,6 @@ ghost use Rattle.cdi_live.specs.Suspects.{holds};
 use crate::sides::Sides;
 use cdi_index::Index;
 use cdi_model::{Decl, DeclKey, Kind, Name, Qual};
-use cdi_positions::PositionSet;
 use cdi_postings::{Reason, Word};
 use indexmap::IndexSet;
 use std::alloc::{AllocError, Global};
@@ -29,25 +27,24 @@ fn add_class(decl: &Decl, classes: &mut IndexSet<Name>) -> Result<(), AllocError
     Ok(())
 }
 
-/// Adds the classes of the bean declarations at some positions.
-fn add_classes_at(
-    index: &Index,
-    positions: &PositionSet,
-    classes: &mut IndexSet<Name>,
-) -> Result<(), AllocError>
-    ensures { OnOk result ((c : _) → contains bytes_eq classes.new c ≡ (contains bytes_eq classes.old c
-        || holds (flat_map (class_named_at index.now.decls) (marked_from 0 positions.now)) c)) }
+/// Adds the classes of the beans among some declarations.
+fn add_classes(decls: &[&Decl], classes: &mut IndexSet<Name>) -> Result<(), AllocError>
+    ensures { OnOk result ((c : _) → contains bytes_eq classes.new c
+        ≡ (contains bytes_eq classes.old c || holds (flat_map class_named (map (λ d. d.now) decls.now)) c)) }
 {
-    for position in positions.iter() {
-        if let Some(decl) = index.decls().at(position) {
-            add_class(decl, classes)?;
-        }
+    for decl in decls {
+        add_class(decl, classes)?;
     }
     Ok(())
 }
 
 /// Adds the classes of the beans that name a binding of a type, or have one by their stereotypes.
-fn add_bound(index: &Index, binding: &Name, classes: &mut IndexSet<Name>) -> Result<(), AllocError>
+fn add_bound(
+    alloc: Global,
+    index: &Index,
+    binding: &Name,
+    classes: &mut IndexSet<Name>,
+) -> Result<(), AllocError>
     ensures { OnOk result ((c : _) → contains bytes_eq classes.new c
         ≡ (contains bytes_eq classes.old c || holds (classes_bound index.now.decls binding.now) c)) }
 {
@@ -55,13 +52,13 @@ fn add_bound(index: &Index, binding: &Name, classes: &mut IndexSet<Name>) -> Res
         reason: Reason::Binds,
         name: *binding,
     };
-    let positions = index.positions_under(&[word]);
-    add_classes_at(index, &positions, classes)?;
-    Ok(())
+    let decls = index.decls_under(alloc, &[word])?;
+    add_classes(&decls, classes)
 }
 
 /// Adds those of the binding types of some keys.
 fn add_bound_by(
+    alloc: Global,
     index: &Index,
     keys: &[DeclKey],
     classes: &mut IndexSet<Name>,
@@ -71,7 +68,7 @@ fn add_bound_by(
 {
     for key in keys {
         if let Kind::Binding = key.kind {
-            add_bound(index, &key.name, classes)?;
+            add_bound(alloc, index, &key.name, classes)?;
         }
     }
     Ok(())
@@ -91,9 +88,9 @@ fn add_intercepted(
         kind: Kind::Binding,
         name: *binding,
     };
-    add_bound(index, binding, classes)?;
+    add_bound(alloc, index, binding, classes)?;
     let readers = index.readers(alloc, &key)?;
-    add_bound_by(index, readers.as_slice(), classes)?;
+    add_bound_by(alloc, index, readers.as_slice(), classes)?;
     Ok(())
 }
 
@@ -146,7 +143,7 @@ fn add_suspects_of(
             classes.insert(key.name)?;
             Ok(())
         }
-        Kind::Binding => add_bound(sides.index, &key.name, classes),
+        Kind::Binding => add_bound(alloc, sides.index, &key.name, classes),
         Kind::Interceptor => add_suspects_of_interceptor(alloc, sides, &key.name, classes),
         _ => Ok(()),
     }

@@ -15,7 +15,7 @@ ghost use Rattle.cdi_live.specs.ChainGone.{is_gone_chain, is_place_of};
 
 use crate::chain_gone::GoneChain;
 use crate::chain_place::ChainPlace;
-use crate::interceptors::{push_bound_words, seen_at};
+use crate::interceptors::{seen_among, words_bound};
 use cdi_index::Index;
 use cdi_intercept::{bindings_seen, has_place, surrounds};
 use cdi_memo::Memo;
@@ -57,10 +57,9 @@ fn names_around(
         ≡ names_around index.now.decls (set_by index.now.decls class.now bean.now place.now) place.now) }
 {
     let bindings = bindings_seen(alloc, index.decls(), class, bean, place)?;
-    let mut words = Vec::new(alloc);
-    push_bound_words(&bindings, &mut words)?;
-    let positions = index.positions_under(&words);
-    let seen = seen_at(alloc, index.decls(), &positions, &bindings, place)?;
+    let words = words_bound(alloc, &bindings)?;
+    let decls = index.decls_under(alloc, &words)?;
+    let seen = seen_among(alloc, &decls, &bindings, place)?;
     names_among(alloc, index.decls(), &seen, &bindings, place)
 }
 

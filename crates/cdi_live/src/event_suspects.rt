@@ -1,5 +1,5 @@
 //! The types of events that may see something else after a draft.
-ghost use Rattle.std.specs.Prelude.{◌≡◌, ◌||◌, ◌++◌, flat_map, map, IfOk, OnOk};
+ghost use Rattle.std.specs.Prelude.{◌≡◌, ◌||◌, flat_map, map, IfOk, OnOk};
 ghost use Rattle.std.specs.List.{list_any};
 ghost use Rattle.std.specs.Map.{keys_of};
 ghost use Rattle.std.specs.Str.{bytes_eq};
@@ -9,48 +9,20 @@ ghost use Rattle.cdi_model.specs.DeclKey.{key_at, same_key};
 ghost use Rattle.cdi_model.specs.Edits.{is_among};
 ghost use Rattle.cdi_model.specs.Mentions.{shown};
 ghost use Rattle.cdi_match.specs.Types.{object};
-ghost use Rattle.cdi_positions.specs.Marks.{marked_from};
 ghost use Rattle.cdi_index.specs.Made.{made_of, reads};
 ghost use Rattle.cdi_seen.specs.Words.{types_observed};
-ghost use Rattle.cdi_live.specs.EventSuspects.{event_types, fired_at, fired_in, fired_types, is_suspect, may_have, observed_at};
-ghost use Rattle.cdi_live.specs.EventSuspects.{observed_by_key, observed_of, word_edited, words_edited};
+ghost use Rattle.cdi_live.specs.EventSuspects.{event_types, fired_in, fired_types, is_suspect, may_have};
+ghost use Rattle.cdi_live.specs.EventSuspects.{observed_by_key, observed_of};
 ghost use Rattle.cdi_live.specs.Suspects.{holds};
 
 use crate::sides::Sides;
+use crate::users::users_of_edited;
 use cdi_index::Index;
 use cdi_memo::Memo;
 use cdi_model::{Decl, DeclKey, Decls, Kind, Mention, Name, ObserverDecl, Quals, Seq};
 use cdi_observe::ObserverId;
-use cdi_positions::PositionSet;
-use cdi_postings::{Reason, Word};
 use indexmap::IndexSet;
 use std::alloc::{AllocError, Global};
-
-// ---- who uses an edited qualifier
-
-/// Appends the word of what is edited, if it is a qualifier.
-fn push_word(edited: &DeclKey, words: &mut Vec<Word>) -> Result<(), AllocError>
-    ensures { OnOk result (words.new.items ≡ words.old.items ++ word_edited edited.now) }
-{
-    if let Kind::Qualifier = edited.kind {
-        words.push(Word {
-            reason: Reason::Qualifies,
-            name: edited.name,
-        })?;
-    }
-    Ok(())
-}
-
-/// The words of the edited qualifiers.
-fn words_edited(alloc: Global, edited: &[DeclKey]) -> Result<Vec<Word>, AllocError>
-    ensures { IfOk result (λ words. words.items ≡ words_edited edited.now) }
-{
-    let mut words = Vec::new(alloc);
-    for key in edited {
-        push_word(key, &mut words)?;
-    }
-    Ok(words)
-}
 
 // ---- what is observed
 
@@ -105,52 +77,28 @@ fn add_observed_by_key(
     Ok(())
 }
 
-/// Adds those of the declaration at a position.
-fn add_observed_at(
-    index: &Index,
-    position: usize,
-    types: &mut IndexSet<Name>,
-) -> Result<(), AllocError>
+/// Adds those of some declarations.
+fn add_all_observed(decls: &[&Decl], types: &mut IndexSet<Name>) -> Result<(), AllocError>
     ensures { OnOk result ((t : _) → contains bytes_eq types.new t
-        ≡ (contains bytes_eq types.old t || holds (observed_at index.now.decls position) t)) }
+        ≡ (contains bytes_eq types.old t || holds (flat_map types_observed (map (λ d. d.now) decls.now)) t)) }
 {
-    if let Some(decl) = index.decls().at(position) {
+    for decl in decls {
         add_observed(decl, types)?;
     }
     Ok(())
 }
 
-/// Adds those of the declarations at some positions.
-fn add_all_observed(
-    index: &Index,
-    positions: &PositionSet,
-    types: &mut IndexSet<Name>,
-) -> Result<(), AllocError>
-    ensures { OnOk result ((t : _) → contains bytes_eq types.new t ≡ (contains bytes_eq types.old t
-        || holds (flat_map (observed_at index.now.decls) (marked_from 0 positions.now)) t)) }
-{
-    for position in positions.iter() {
-        add_observed_at(index, position, types)?;
-    }
-    Ok(())
-}
-
-/// The types that observer methods of affected declarations observe, before or after, and those of the declarations at some
-/// positions.
-fn observed(
-    alloc: Global,
-    sides: &Sides<'_>,
-    positions: &PositionSet,
-) -> Result<IndexSet<Name>, AllocError>
+/// The types that observer methods of affected declarations observe, before or after, and those of some declarations.
+fn observed(alloc: Global, sides: &Sides<'_>, users: &[&Decl]) -> Result<IndexSet<Name>, AllocError>
     ensures { IfOk result (λ types. (t : _) → contains bytes_eq types t
         ≡ (holds (flat_map (observed_by_key sides.now.index.now.decls sides.now.next.now) sides.now.affected.now) t
-        || holds (flat_map (observed_at sides.now.index.now.decls) (marked_from 0 positions.now)) t)) }
+        || holds (flat_map types_observed (map (λ d. d.now) users.now)) t)) }
 {
     let mut types = IndexSet::new(alloc);
     for key in sides.affected {
         add_observed_by_key(sides, key, &mut types)?;
     }
-    add_all_observed(sides.index, positions, &mut types)?;
+    add_all_observed(users, &mut types)?;
     Ok(types)
 }
 
@@ -179,32 +127,13 @@ fn add_fired(decl: &Decl, types: &mut IndexSet<Name>) -> Result<(), AllocError>
     Ok(())
 }
 
-/// Adds those of the declaration at a position.
-fn add_fired_at(
-    index: &Index,
-    position: usize,
-    types: &mut IndexSet<Name>,
-) -> Result<(), AllocError>
+/// Adds those of some declarations.
+fn add_all_fired(decls: &[&Decl], types: &mut IndexSet<Name>) -> Result<(), AllocError>
     ensures { OnOk result ((t : _) → contains bytes_eq types.new t
-        ≡ (contains bytes_eq types.old t || holds (fired_at index.now.decls position) t)) }
+        ≡ (contains bytes_eq types.old t || holds (flat_map fired_types (map (λ d. d.now) decls.now)) t)) }
 {
-    if let Some(decl) = index.decls().at(position) {
+    for decl in decls {
         add_fired(decl, types)?;
-    }
-    Ok(())
-}
-
-/// Adds those of the declarations at some positions.
-fn add_all_fired(
-    index: &Index,
-    positions: &PositionSet,
-    types: &mut IndexSet<Name>,
-) -> Result<(), AllocError>
-    ensures { OnOk result ((t : _) → contains bytes_eq types.new t ≡ (contains bytes_eq types.old t
-        || holds (flat_map (fired_at index.now.decls) (marked_from 0 positions.now)) t)) }
-{
-    for position in positions.iter() {
-        add_fired_at(index, position, types)?;
     }
     Ok(())
 }
@@ -339,11 +268,10 @@ pub(crate) fn event_suspects(
     ensures { IfOk result (λ types. (t : _) → contains bytes_eq types t
         ≡ is_suspect sides.now.index.now.decls sides.now.next.now sides.now.edited.now sides.now.affected.now (keys_of events.now) t) }
 {
-    let words = words_edited(alloc, sides.edited)?;
-    let users = sides.index.positions_under(&words);
+    let users = users_of_edited(alloc, sides)?;
     let names = observed(alloc, sides, &users)?;
     let mut types = types_among(alloc, sides.affected)?;
-    add_all_fired(sides.index, &users, &mut types)?;
+    add_all_fired(&users, &mut types)?;
     add_all_having(alloc, sides.index, events, names.as_slice(), &mut types)?;
     Ok(types)
 }

@@ -1,29 +1,29 @@
 //! The interceptors that a chain sees, by the words of their bindings.
-ghost use Rattle.std.specs.Prelude.{◌≡◌, ◌++◌, false, Some, [], filter, flat_map, slice_get, IfOk, OnOk};
+ghost use Rattle.std.specs.Prelude.{◌≡◌, ◌++◌, filter, flat_map, map, IfOk, OnOk};
+ghost use Rattle.base_lists.specs.Sorting.{sorted_by};
 ghost use Rattle.cdi_match.specs.Bindings.{uses_in};
-ghost use Rattle.cdi_intercept.specs.Chains.{in_order};
+ghost use Rattle.cdi_intercept.specs.Chains.{is_before};
 ghost use Rattle.cdi_intercept.specs.Lent.{lent_in};
 ghost use Rattle.cdi_intercept.specs.Sees.{is_seen};
-ghost use Rattle.cdi_positions.specs.Marks.{is_marked, marked_from};
-ghost use Rattle.cdi_live.specs.ChainGone.{enabled_at, enabled_in, words_bound};
+ghost use Rattle.cdi_live.specs.ChainGone.{enabled_in, words_bound};
 
 use cdi_intercept::{seen_around, sorted_by_priority};
-use cdi_model::{BeanPlace, Decl, Decls, InterceptorDecl, Qual};
-use cdi_positions::PositionSet;
+use cdi_model::{BeanPlace, Decl, InterceptorDecl, Qual};
 use cdi_postings::{Reason, Word};
 use std::alloc::{AllocError, Global};
 
-/// Appends the words of the interceptors that have a binding of one of the types of these.
-pub(crate) fn push_bound_words(uses: &[&Qual], words: &mut Vec<Word>) -> Result<(), AllocError>
-    ensures { OnOk result (words.new.items ≡ words.old.items ++ words_bound (uses_in uses.now)) }
+/// The words of the interceptors that have a binding of one of the types of these.
+pub(crate) fn words_bound(alloc: Global, uses: &[&Qual]) -> Result<Vec<Word>, AllocError>
+    ensures { IfOk result (λ words. words.items ≡ words_bound (uses_in uses.now)) }
 {
+    let mut words = Vec::with_capacity(alloc, uses.len())?;
     for binding in uses {
         words.push(Word {
             reason: Reason::Intercepts,
             name: binding.name,
         })?;
     }
-    Ok(())
+    Ok(words)
 }
 
 /// Appends the interceptor that a declaration is, if it is enabled.
@@ -38,36 +38,31 @@ fn push_enabled<'a>(decl: &'a Decl, list: &mut Vec<&'a InterceptorDecl>) -> Resu
     Ok(())
 }
 
-/// The enabled interceptors at some positions, in the order of their declarations.
-fn enabled_at<'a>(
+/// The enabled interceptors among some declarations, in their order.
+fn enabled_among<'a>(
     alloc: Global,
-    decls: &'a Decls,
-    positions: &PositionSet,
+    decls: &[&'a Decl],
 ) -> Result<Vec<&'a InterceptorDecl>, AllocError>
-    ensures { IfOk result (λ list. lent_in list.items ≡ flat_map (enabled_at decls.now) (marked_from 0 positions.now)) }
+    ensures { IfOk result (λ list. lent_in list.items ≡ flat_map enabled_in (map (λ d. d.now) decls.now)) }
 {
     let mut list = Vec::new(alloc);
-    for position in positions.iter() {
-        if let Some(decl) = decls.at(position) {
-            push_enabled(decl, &mut list)?;
-        }
+    for decl in decls {
+        push_enabled(decl, &mut list)?;
     }
     Ok(list)
 }
 
-/// The interceptors that the chain around a place with some bindings sees, in order, where those at no other position are
-/// seen. It takes memory for those at the positions.
-pub(crate) fn seen_at<'a>(
+/// Those interceptors among some declarations that the chain around a place with some bindings sees, in order. It takes memory
+/// for the enabled ones.
+pub(crate) fn seen_among<'a>(
     alloc: Global,
-    decls: &'a Decls,
-    positions: &PositionSet,
+    decls: &[&'a Decl],
     bindings: &[&Qual],
     place: &BeanPlace,
 ) -> Result<Vec<&'a InterceptorDecl>, AllocError>
-    requires { (p : _) (d : _) → slice_get decls.now p ≡ Some d → is_marked positions.now p ≡ false
-        → filter (is_seen (uses_in bindings.now) place.now) (enabled_in d) ≡ [] }
-    ensures { IfOk result (λ list. lent_in list.items ≡ filter (is_seen (uses_in bindings.now) place.now) (in_order decls.now)) }
+    ensures { IfOk result (λ list. lent_in list.items
+        ≡ filter (is_seen (uses_in bindings.now) place.now) (sorted_by is_before (flat_map enabled_in (map (λ d. d.now) decls.now)))) }
 {
-    let list = sorted_by_priority(enabled_at(alloc, decls, positions)?)?;
+    let list = sorted_by_priority(enabled_among(alloc, decls)?)?;
     seen_around(alloc, &list, bindings, place)
 }

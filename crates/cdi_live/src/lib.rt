@@ -24,6 +24,7 @@ mod prepare;
 mod sides;
 mod stage;
 mod suspects;
+mod users;
 mod view;
 
 pub use live::Live;

@@ -1,18 +1,16 @@
 //! The types of which choices may be other ones after a draft.
-ghost use Rattle.std.specs.Prelude.{◌≡◌, ◌||◌, ◌++◌, flat_map, IfOk, OnOk};
+ghost use Rattle.std.specs.Prelude.{◌≡◌, ◌||◌, flat_map, map, IfOk, OnOk};
 ghost use Rattle.std.specs.Str.{bytes_eq};
 ghost use Rattle.cdi_model.specs.Mentions.{shown};
-ghost use Rattle.cdi_positions.specs.Marks.{marked_from};
 ghost use Rattle.indexmap.specs.IndexSet.{contains};
-ghost use Rattle.cdi_live.specs.Suspects.{asked_in, asked_types, concerned_at, holds, suspects, types_of_edited};
-ghost use Rattle.cdi_live.specs.Suspects.{types_of_key, types_of_records, types_qualified};
+ghost use Rattle.cdi_live.specs.Suspects.{asked_in, asked_types, concerned, holds, suspects, types_given};
+ghost use Rattle.cdi_live.specs.Suspects.{types_of_key, types_of_records};
 
 use crate::sides::Sides;
+use crate::users::users_of_edited;
 use cdi_effective::Effective;
 use cdi_index::Index;
 use cdi_model::{Decl, DeclKey, Kind, Mention, Name};
-use cdi_positions::PositionSet;
-use cdi_postings::{Reason, Word};
 use indexmap::IndexSet;
 use std::alloc::{AllocError, Global};
 
@@ -60,64 +58,40 @@ fn add_asked_types(decl: &Decl, types: &mut IndexSet<Name>) -> Result<(), AllocE
     Ok(())
 }
 
-/// Adds the types of the beans of the declaration at a position, and those for which its points ask.
-fn add_concerned(
-    index: &Index,
-    position: usize,
-    types: &mut IndexSet<Name>,
-) -> Result<(), AllocError>
+/// Adds the types of the beans of a declaration.
+fn add_given(index: &Index, decl: &Decl, types: &mut IndexSet<Name>) -> Result<(), AllocError>
     ensures { OnOk result ((t : _) → contains bytes_eq types.new t
-        ≡ (contains bytes_eq types.old t || holds (concerned_at index.now.decls position) t)) }
+        ≡ (contains bytes_eq types.old t || holds (types_given index.now.decls decl.now) t)) }
 {
-    add_types_of_records(index.records_at(position), types)?;
-    if let Some(decl) = index.decls().at(position) {
-        add_asked_types(decl, types)?;
+    match decl {
+        Decl::Bean(bean) => add_types_of_records(index.records(&bean.name), types),
+        _ => Ok(()),
     }
+}
+
+/// Adds those, and the types for which its points ask.
+fn add_concerned(index: &Index, decl: &Decl, types: &mut IndexSet<Name>) -> Result<(), AllocError>
+    ensures { OnOk result ((t : _) → contains bytes_eq types.new t
+        ≡ (contains bytes_eq types.old t || holds (concerned index.now.decls decl.now) t)) }
+{
+    add_given(index, decl, types)?;
+    add_asked_types(decl, types)?;
     Ok(())
 }
 
-/// Adds those of the declarations at some positions.
+/// Adds those of some declarations.
 fn add_all_concerned(
     index: &Index,
-    positions: &PositionSet,
+    decls: &[&Decl],
     types: &mut IndexSet<Name>,
 ) -> Result<(), AllocError>
     ensures { OnOk result ((t : _) → contains bytes_eq types.new t ≡ (contains bytes_eq types.old t
-        || holds (flat_map (concerned_at index.now.decls) (marked_from 0 positions.now)) t)) }
+        || holds (flat_map (concerned index.now.decls) (map (λ d. d.now) decls.now)) t)) }
 {
-    for position in positions.iter() {
-        add_concerned(index, position, types)?;
+    for decl in decls {
+        add_concerned(index, decl, types)?;
     }
     Ok(())
-}
-
-/// Adds those of the declarations that use a qualifier.
-fn add_qualified(
-    index: &Index,
-    qualifier: &Name,
-    types: &mut IndexSet<Name>,
-) -> Result<(), AllocError>
-    ensures { OnOk result ((t : _) → contains bytes_eq types.new t
-        ≡ (contains bytes_eq types.old t || holds (types_qualified index.now.decls qualifier.now) t)) }
-{
-    let word = Word {
-        reason: Reason::Qualifies,
-        name: *qualifier,
-    };
-    let positions = index.positions_under(&[word]);
-    add_all_concerned(index, &positions, types)?;
-    Ok(())
-}
-
-/// Adds the types that an edited qualifier concerns.
-fn add_edited(index: &Index, edited: &DeclKey, types: &mut IndexSet<Name>) -> Result<(), AllocError>
-    ensures { OnOk result ((t : _) → contains bytes_eq types.new t
-        ≡ (contains bytes_eq types.old t || holds (types_of_edited index.now.decls edited.now) t)) }
-{
-    match edited.kind {
-        Kind::Qualifier => add_qualified(index, &edited.name, types),
-        _ => Ok(()),
-    }
 }
 
 /// Adds the types of the beans of a declaration, before and after.
@@ -142,12 +116,11 @@ pub(crate) fn suspects(alloc: Global, sides: &Sides<'_>) -> Result<IndexSet<Name
     ensures { IfOk result (λ types. (t : _) → contains bytes_eq types t
         ≡ holds (suspects sides.now.index.now.decls sides.now.next.now sides.now.edited.now sides.now.affected.now) t) }
 {
+    let users = users_of_edited(alloc, sides)?;
     let mut types = IndexSet::new(alloc);
     for key in sides.affected {
         add_types_of_key(sides, key, &mut types)?;
     }
-    for key in sides.edited {
-        add_edited(sides.index, key, &mut types)?;
-    }
+    add_all_concerned(sides.index, &users, &mut types)?;
     Ok(types)
 }

@@ -1,33 +1,32 @@
-use Rattle.cdi_live.proofs.Common.{◌≡◌, false, List, sym, ap, ◌∙◌, Qual, option_map_or, ◌++◌, Word, subst, has_one}
-use Rattle.cdi_live.proofs.Common.{slice_get, words_bound}
+use Rattle.cdi_live.proofs.Common.{◌≡◌, List, map, filter, sym, ap, ◌∙◌, Qual, in_order, is_seen, lent_in, IfOk-weaker}
 use Rattle.cdi_match.specs.Bindings.{uses_in}
-use Rattle.cdi_live.proofs.{InterceptorLemmas.cover-one, InterceptorLemmas.without-words}
-use Rattle.cdi_live.proofs.{InterceptorLemmas.Cover, InterceptorStayLemmas.between-stay}
+use Rattle.cdi_seen.specs.Touched.{interceptors_alike}
+use Rattle.cdi_live.specs.ChainCompared.{see_same_interceptors}
+use Rattle.cdi_live.proofs.{InterceptorLemmas.seen-found, InterceptorStayLemmas.between-stay}
 use Rattle.cdi_live.proofs.chain_compare.see_same_interceptors.Goals as goal
 
 pub returns-then-not-sides : goal.returns-then-not-sides
 returns-then-not-sides c = sym (between-stay c.args.sides.now c.requires c.if-not-sides.true (uses_in c.args.bindings.now) c.args.place.now)
 
-pub seen_at-requires : goal.seen_at-requires
-seen_at-requires c p d at unmarked =
+pub returns : goal.returns
+returns c =
     let ds = c.args.sides.now.index.now.decls in
-    let us : List Qual = uses_in c.args.bindings.now in
-    let words : List Word = c.deref.result.now in
-    let are : words ≡ words_bound us =
-    c.deref.ensures.value ∙ c.in_ok-push_bound_words.ensures
-    ∙ ap (λ ws. ws ++ words_bound us) c.new-words.ensures.items in
-    without-words ds words us c.args.place.now d (subst (λ ws. Cover ws us) (sym are) (cover-one us))
-    (sym (ap (λ o. option_map_or (has_one ds words) o false) (ap (λ l. slice_get l p) (sym c.decls.ensures.value) ∙ at))
-    ∙ sym (c.positions_under-before.ensures p) ∙ unmarked)
-
-pub seen_at-requires-2 : goal.seen_at-requires-2
-seen_at-requires-2 c p d at unmarked =
     let es = c.args.sides.now.next.now in
     let us : List Qual = uses_in c.args.bindings.now in
-    let words : List Word = c.deref-2.result.now in
-    let are : words ≡ words_bound us =
-    c.deref-2.ensures.value ∙ c.in_ok-push_bound_words.ensures
-    ∙ ap (λ ws. ws ++ words_bound us) c.new-words.ensures.items in
-    without-words es words us c.args.place.now d (subst (λ ws. Cover ws us) (sym are) (cover-one us))
-    (sym (ap (λ o. option_map_or (has_one es words) o false) (ap (λ l. slice_get l p) (sym c.decls-2.ensures.value) ∙ at))
-    ∙ sym (c.positions_under-after.ensures p) ∙ unmarked)
+    let place = c.args.place.now in
+    let olds : lent_in c.deref-5.result.now ≡ filter (is_seen us place) (in_order ds) =
+    ap lent_in c.deref-5.ensures.value ∙ c.in_ok-olds.ensures
+    ∙ seen-found us place ds (map (λ d. d.now) c.deref-3.result.now) c.deref.result.now (c.deref.ensures.value ∙ c.in_ok-words.ensures)
+    (ap (map (λ d. d.now)) c.deref-3.ensures.value ∙ c.in_ok-before.ensures) in
+    let news : lent_in c.deref-6.result.now ≡ filter (is_seen us place) (in_order es) =
+    ap lent_in c.deref-6.ensures.value ∙ c.in_ok-news.ensures
+    ∙ seen-found us place es (map (λ d. d.now) c.deref-4.result.now) c.deref-2.result.now (c.deref-2.ensures.value ∙ c.in_ok-words.ensures)
+    (ap (map (λ d. d.now)) c.deref-4.ensures.value ∙ c.in_ok-after.ensures) in
+    IfOk-weaker c.same_interceptors.result
+    (λ is. is ≡ interceptors_alike c.decls.result.now (lent_in c.deref-5.result.now) c.decls-2.result.now (lent_in c.deref-6.result.now))
+    (λ is. is ≡ see_same_interceptors ds es us place)
+    (λ is same. same
+    ∙ ap (λ l. interceptors_alike l (lent_in c.deref-5.result.now) c.decls-2.result.now (lent_in c.deref-6.result.now)) c.decls.ensures.value
+    ∙ ap (λ l. interceptors_alike ds (lent_in c.deref-5.result.now) l (lent_in c.deref-6.result.now)) c.decls-2.ensures.value
+    ∙ (λ i. interceptors_alike ds (olds i) es (news i)))
+    c.same_interceptors.ensures.same

@@ -1,6 +1,7 @@
 use Rattle.cdi_live.proofs.Common.{◌≡◌, Bool, ◌&&◌, List, [], sym, ap, ◌∙◌, list_any, bytes_eq, Qual, ◌||◌, parts_under, arith, same_quals}
 use Rattle.cdi_live.proofs.Common.{sees_other, is_gone, take}
-use Rattle.cdi_live.proofs.PartLemmas.{any-next, none-copied, nothing-more, regroup, take-whole, within}
+use Rattle.std.proofs.lemmas.Option.{slice_get_within}
+use Rattle.cdi_live.proofs.PartLemmas.{any-next, none-copied, nothing-more, regroup, take-whole}
 use Rattle.cdi_live.proofs.compare.push_gone_of_type.Goals as goal
 
 pub returns-then-is_none : goal.returns-then-is_none
@@ -18,14 +19,14 @@ returns-then-is_none c t us =
 pub overflow_add-index : goal.overflow_add-index
 overflow_add-index c = omega (
   arith,
-  within (parts_under c.args.choices.now c.args.bean_type.now) c.parts.index c.in-Some.uses.now (sym c.in-Some.ensures.part),
+  slice_get_within (parts_under c.args.choices.now c.args.bean_type.now) c.parts.index c.in-Some.uses.now (sym c.in-Some.ensures.part),
   c.in-Some.ensures.small,
 )
 
 pub parts-smaller : goal.parts-smaller
 parts-smaller c = omega (
   arith,
-  within (parts_under c.args.choices.now c.args.bean_type.now) c.parts.index c.in-Some.uses.now (sym c.in-Some.ensures.part),
+  slice_get_within (parts_under c.args.choices.now c.args.bean_type.now) c.parts.index c.in-Some.uses.now (sym c.in-Some.ensures.part),
 )
 
 pub parts-preserved : goal.parts-preserved

@@ -1,6 +1,7 @@
 use Rattle.cdi_live.proofs.Common.{◌≡◌, Bool, ◌&&◌, List, [], sym, ap, ◌∙◌, bytes_eq, Qual, ◌||◌, parts_under, is_touched, arith, EventKey}
 use Rattle.cdi_live.proofs.Common.{same_quals, is_gone, take, is_touched_among}
-use Rattle.cdi_live.proofs.PartLemmas.{any-next, none-copied, nothing-more, regroup, take-whole, within}
+use Rattle.std.proofs.lemmas.Option.{slice_get_within}
+use Rattle.cdi_live.proofs.PartLemmas.{any-next, none-copied, nothing-more, regroup, take-whole}
 use Rattle.cdi_live.proofs.event_compare.push_touched_of_type.Goals as goal
 
 pub returns-then-is_none : goal.returns-then-is_none
@@ -17,14 +18,14 @@ returns-then-is_none c t us =
 pub overflow_add-index : goal.overflow_add-index
 overflow_add-index c = omega (
   arith,
-  within (parts_under c.args.events.now c.args.event_type.now) c.parts.index c.in-Some.quals.now (sym c.in-Some.ensures.part),
+  slice_get_within (parts_under c.args.events.now c.args.event_type.now) c.parts.index c.in-Some.quals.now (sym c.in-Some.ensures.part),
   c.in-Some.ensures.small,
 )
 
 pub parts-smaller : goal.parts-smaller
 parts-smaller c = omega (
   arith,
-  within (parts_under c.args.events.now c.args.event_type.now) c.parts.index c.in-Some.quals.now (sym c.in-Some.ensures.part),
+  slice_get_within (parts_under c.args.events.now c.args.event_type.now) c.parts.index c.in-Some.quals.now (sym c.in-Some.ensures.part),
 )
 
 pub parts-preserved : goal.parts-preserved

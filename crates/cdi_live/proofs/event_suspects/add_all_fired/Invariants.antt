@@ -1,6 +1,6 @@
-use Rattle.cdi_live.proofs.Common.{◌≡◌, List, bytes_eq, ℕ, ◌||◌, flat_map, holds, marked_from, fired_at, contains}
+use Rattle.cdi_live.proofs.Common.{◌≡◌, List, bytes_eq, ℕ, ◌||◌, flat_map, map, holds, take, contains, fired_types}
 use Rattle.cdi_live.proofs.event_suspects.add_all_fired.Given as goal
 
-abbrev pub invariant-loop-position : goal.invariant-loop-position
-invariant-loop-position l = (t : List ℕ) → (contains bytes_eq l.types t || holds (flat_map (fired_at l.index.decls) l.position-iterator) t)
-    ≡ (contains bytes_eq l.fn.types t || holds (flat_map (fired_at l.index.decls) (marked_from 0 l.positions)) t)
+abbrev pub invariant-loop-decl : goal.invariant-loop-decl
+invariant-loop-decl l = (t : List ℕ) → contains bytes_eq l.types t
+    ≡ (contains bytes_eq l.fn.types t || holds (flat_map fired_types (map (λ d. d.now) (take l.decl-index l.decls))) t)

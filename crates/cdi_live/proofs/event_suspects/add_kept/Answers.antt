@@ -1,18 +1,19 @@
 use Rattle.cdi_live.proofs.Common.{or_assoc, sym, ap, ◌∙◌, bytes_eq, ◌||◌, holds, arith, keys_of, take, contains}
-use Rattle.cdi_live.proofs.PartLemmas.{any-next, take-whole, within}
+use Rattle.std.proofs.lemmas.Option.{slice_get_within}
+use Rattle.cdi_live.proofs.PartLemmas.{any-next, take-whole}
 use Rattle.cdi_live.proofs.event_suspects.add_kept.Goals as goal
 
 pub overflow_add-index : goal.overflow_add-index
 overflow_add-index c = omega (
   arith,
-  within (keys_of c.args.events.now) c.names.index c.in-Some.name.now (sym c.in-Some.ensures.name),
+  slice_get_within (keys_of c.args.events.now) c.names.index c.in-Some.name.now (sym c.in-Some.ensures.name),
   c.in-Some.ensures.small,
 )
 
 pub names-smaller : goal.names-smaller
 names-smaller c = omega (
   arith,
-  within (keys_of c.args.events.now) c.names.index c.in-Some.name.now (sym c.in-Some.ensures.name),
+  slice_get_within (keys_of c.args.events.now) c.names.index c.in-Some.name.now (sym c.in-Some.ensures.name),
 )
 
 pub names-preserved : goal.names-preserved

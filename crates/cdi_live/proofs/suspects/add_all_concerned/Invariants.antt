@@ -1,8 +1,6 @@
-use Rattle.cdi_live.proofs.Common.{◌≡◌, List, bytes_eq, ℕ, ◌||◌, flat_map, holds, marked_from, contains}
-use Rattle.cdi_live.specs.Suspects.{concerned_at}
+use Rattle.cdi_live.proofs.Common.{◌≡◌, List, bytes_eq, ℕ, ◌||◌, flat_map, map, holds, take, contains, concerned}
 use Rattle.cdi_live.proofs.suspects.add_all_concerned.Given as goal
 
-abbrev pub invariant-loop-position : goal.invariant-loop-position
-invariant-loop-position l = (t : List ℕ)
-    → (contains bytes_eq l.types t || holds (flat_map (concerned_at l.index.decls) l.position-iterator) t)
-    ≡ (contains bytes_eq l.fn.types t || holds (flat_map (concerned_at l.index.decls) (marked_from 0 l.positions)) t)
+abbrev pub invariant-loop-decl : goal.invariant-loop-decl
+invariant-loop-decl l = (t : List ℕ) → contains bytes_eq l.types t
+    ≡ (contains bytes_eq l.fn.types t || holds (flat_map (concerned l.index.decls) (map (λ d. d.now) (take l.decl-index l.decls))) t)

@@ -1,6 +1,0 @@
-use Rattle.cdi_live.proofs.Common.{◌≡◌, ◌++◌, words_bound, take}
-use Rattle.cdi_match.specs.Bindings.{uses_in}
-use Rattle.cdi_live.proofs.interceptors.push_bound_words.Given as goal
-
-abbrev pub invariant-loop-binding : goal.invariant-loop-binding
-invariant-loop-binding l = l.words.items ≡ l.fn.words.items ++ words_bound (uses_in (take l.binding-index l.uses))
