@@ -31,7 +31,7 @@ surrounds-any : (ds : List Decl) (set : List Qual) (place : BeanPlace) (i : Inte
 surrounds-any ds set place i =
     ap (λ b. is_some (part_for place i) && (not (nat_eq (length i.bindings) 0) && b)) (any-order ds set i.bindings)
 
-pub around-seen : (ds : List Decl) (set : List Qual) (place : BeanPlace)
+around-seen : (ds : List Decl) (set : List Qual) (place : BeanPlace)
     → map (λ i. i.name) (filter (surrounds ds (in_text_order set) place) (filter (is_seen (in_text_order set) place) (in_order ds)))
     ≡ names_around ds set place
 unfolding chain_by
@@ -41,3 +41,15 @@ around-seen ds set place =
     (sym (filter-both (is_seen list place) (surrounds ds list place) (in_order ds))
     ∙ filter_agree (λ i. is_seen list place i && surrounds ds list place i) (surrounds ds set place)
     (λ i. seen-too ds list place i ∙ surrounds-any ds set place i) (in_order ds))
+
+-- they are those that surround it of any interceptors of which it sees the same
+pub around-found : (ds : List Decl) (set list : List Qual) (place : BeanPlace) (found : List InterceptorDecl) → list ≡ in_text_order set
+    → filter (is_seen list place) found ≡ filter (is_seen list place) (in_order ds)
+    → map (λ i. i.name) (filter (surrounds ds list place) found) ≡ names_around ds set place
+around-found ds set list place found is same =
+    ap (map (λ i. i.name))
+    (sym (filter_agree (λ i. is_seen list place i && surrounds ds list place i) (surrounds ds list place) (seen-too ds list place) found)
+    ∙ filter-both (is_seen list place) (surrounds ds list place) found
+    ∙ ap (filter (surrounds ds list place)) same)
+    ∙ ap (λ us. map (λ i. i.name) (filter (surrounds ds us place) (filter (is_seen us place) (in_order ds)))) is
+    ∙ around-seen ds set place

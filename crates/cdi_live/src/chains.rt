@@ -15,7 +15,7 @@ ghost use Rattle.cdi_live.specs.ChainGone.{is_gone_chain, is_place_of};
 
 use crate::chain_gone::GoneChain;
 use crate::chain_place::ChainPlace;
-use crate::interceptors::{seen_among, words_bound};
+use crate::interceptors::{enabled_in_order, words_bound};
 use cdi_index::Index;
 use cdi_intercept::{bindings_seen, has_place, surrounds};
 use cdi_memo::Memo;
@@ -28,15 +28,15 @@ use std::alloc::{AllocError, Global};
 fn names_among(
     alloc: Global,
     decls: &Decls,
-    seen: &[&InterceptorDecl],
+    interceptors: &[&InterceptorDecl],
     bindings: &[&Qual],
     place: &BeanPlace,
 ) -> Result<Seq<Name>, AllocError>
     ensures { IfOk result (λ names. names
-        ≡ map (λ i. i.name) (filter (surrounds decls.now (uses_in bindings.now) place.now) (lent_in seen.now))) }
+        ≡ map (λ i. i.name) (filter (surrounds decls.now (uses_in bindings.now) place.now) (lent_in interceptors.now))) }
 {
     let mut names = Seq::new(alloc);
-    for interceptor in seen {
+    for interceptor in interceptors {
         if surrounds(decls, bindings, place, interceptor) {
             names.push(interceptor.name)?;
         }
@@ -59,8 +59,8 @@ fn names_around(
     let bindings = bindings_seen(alloc, index.decls(), class, bean, place)?;
     let words = words_bound(alloc, &bindings)?;
     let decls = index.decls_under(alloc, &words)?;
-    let seen = seen_among(alloc, &decls, &bindings, place)?;
-    names_among(alloc, index.decls(), &seen, &bindings, place)
+    let interceptors = enabled_in_order(alloc, &decls)?;
+    names_among(alloc, index.decls(), &interceptors, &bindings, place)
 }
 
 /// The names of the interceptors around a place of the bean of a class, in order. It is refused with `UnknownName` where no

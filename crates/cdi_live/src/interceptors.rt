@@ -52,6 +52,16 @@ fn enabled_among<'a>(
     Ok(list)
 }
 
+/// The enabled interceptors among some declarations, from the least priority on. It takes memory for a list of them.
+pub(crate) fn enabled_in_order<'a>(
+    alloc: Global,
+    decls: &[&'a Decl],
+) -> Result<Vec<&'a InterceptorDecl>, AllocError>
+    ensures { IfOk result (λ list. lent_in list.items ≡ sorted_by is_before (flat_map enabled_in (map (λ d. d.now) decls.now))) }
+{
+    sorted_by_priority(enabled_among(alloc, decls)?)
+}
+
 /// Those interceptors among some declarations that the chain around a place with some bindings sees, in order. It takes memory
 /// for the enabled ones.
 pub(crate) fn seen_among<'a>(
@@ -63,6 +73,6 @@ pub(crate) fn seen_among<'a>(
     ensures { IfOk result (λ list. lent_in list.items
         ≡ filter (is_seen (uses_in bindings.now) place.now) (sorted_by is_before (flat_map enabled_in (map (λ d. d.now) decls.now)))) }
 {
-    let list = sorted_by_priority(enabled_among(alloc, decls)?)?;
+    let list = enabled_in_order(alloc, decls)?;
     seen_around(alloc, &list, bindings, place)
 }

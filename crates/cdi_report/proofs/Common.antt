@@ -61,6 +61,6 @@ pub use Rattle.cdi_validate.specs.Among.{has_faults, faults_together, looks_at_a
 pub use Rattle.cdi_validate.specs.Together.{AreNamed, is_chainless, is_nameless, is_needless}
 pub use Rattle.cdi_validate.proofs.{AmongLemmas.told-all, OnceLemmas.faults_stand_once}
 pub use Rattle.cdi_report.specs.Spared.{AreQualifiersSpared, IsBindingSpared, IsSpared, IsNotEdited}
-pub use Rattle.cdi_report.specs.Settled.{closed_of, is_open, is_present, AreSettled, HaveNoneTogether, open_of}
+pub use Rattle.cdi_report.specs.Settled.{changed_of, is_changed, is_open, is_present, AreSettled, HaveNoneTogether, open_of, unchanged_of}
 pub use Rattle.cdi_report.specs.{declared.unsettled.Unsettled.Unsettled, Stays.IsLeft, Known.IsKnown, Known.AreChainsKnown, Apart.IsApart}
 pub use Rattle.cdi_report.specs.{Apart.IsStill, Unconcerned.IsUnconcerned, Positions.decls_at, Positions.is_at}

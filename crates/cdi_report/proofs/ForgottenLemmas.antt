@@ -2,7 +2,7 @@
 use Rattle.cdi_report.proofs.Common.{all-weaker, ◌≡◌, Bool, true, false, cond, List, [], ◌∷◌, Option, Some, refl, sym, ap, subst, ◌∙◌, inl}
 use Rattle.cdi_report.proofs.Common.{inr, AllByRecursion, cases_Bool, false≢true, kind_of, name_of_decl, same_key, same_key_equiv}
 use Rattle.cdi_report.proofs.Common.{find_decl, Decl, DeclKey, ◌||◌, key_of, Key, list_any, is_some, filter, contains, Promised, is_of}
-use Rattle.cdi_report.proofs.Common.{key_exact, closed_of, is_open, is_present, AreSettled, HaveNoneTogether, Unsettled, arith}
+use Rattle.cdi_report.proofs.Common.{key_exact, unchanged_of, is_changed, is_present, AreSettled, HaveNoneTogether, Unsettled, arith}
 
 -- ---- the keys that are left
 
@@ -45,27 +45,30 @@ each-present (d ∷ ds) = (
     more : (e : Decl) → is_present ds (key_of e) ≡ true → is_present (d ∷ ds) (key_of e) ≡ true
     more e there = by (is_of (kind_of e) (name_of_decl e) d) (find_decl (kind_of e) (name_of_decl e) ds) there
 
-closed-same : (ds es : List Decl) (old new : Unsettled) → AllByRecursion (λ d. is_open old (key_of d) ≡ is_open new (key_of d)) es
-    → closed_of old es ≡ closed_of new es
-closed-same ds [] old new same = refl
-closed-same ds (d ∷ es) old new same = grind (arith, closed-same ds es old new same.1, same.0, same.1)
+unchanged-same : (ds es : List Decl) (old new : Unsettled) → AllByRecursion (λ d. is_changed old (key_of d) ≡ is_changed new (key_of d)) es
+    → unchanged_of old es ≡ unchanged_of new es
+unchanged-same ds [] old new same = refl
+unchanged-same ds (d ∷ es) old new same = grind (arith, unchanged-same ds es old new same.1, same.0, same.1)
 
-pub settled-forgotten : (ds : List Decl) (old new : Unsettled) → new.is_each ≡ old.is_each → new.anew ≡ old.anew
+pub settled-forgotten : (ds : List Decl) (old new : Unsettled) → new.is_each ≡ old.is_each → new.anew ≡ old.anew → new.faulty ≡ old.faulty
     → new.keys.keys ≡ filter (is_present ds) old.keys.keys → (knows : Key → Bool) (book : List Promised) → AreSettled ds knows book old
     → AreSettled ds knows book new
-settled-forgotten ds old new each anew are knows book settled = record {
-  each = λ d found shut. settled.each d found (open-same d (ap is_some found) ∙ shut);
-  apart = subst (λ own. HaveNoneTogether ds own new.anew) closed
-      (subst (λ a. HaveNoneTogether ds (closed_of old ds) a) (sym anew) settled.apart);
+settled-forgotten ds old new each anew faulty are knows book settled = record {
+  known = λ d found same. settled.known d found (changed-same d (ap is_some found) ∙ same);
+  faultless = λ d found shut. settled.faultless d found
+      (ap (λ b. b || contains same_key old.faulty (key_of d)) (changed-same d (ap is_some found))
+      ∙ ap (λ s. is_changed new (key_of d) || contains same_key s (key_of d)) (sym faulty) ∙ shut);
+  apart = subst (λ own. HaveNoneTogether ds own new.anew) unchanged
+      (subst (λ a. HaveNoneTogether ds (unchanged_of old ds) a) (sym anew) settled.apart);
 }
   where
-    open-same : (d : Decl) → is_present ds (key_of d) ≡ true → is_open old (key_of d) ≡ is_open new (key_of d)
-    open-same d there =
+    changed-same : (d : Decl) → is_present ds (key_of d) ≡ true → is_changed old (key_of d) ≡ is_changed new (key_of d)
+    changed-same d there =
         ap (λ b. b || contains same_key old.keys (key_of d)) (sym each)
         ∙ ap (λ b. new.is_each || b)
         (sym (left (is_present ds) old.keys.keys (key_of d) there) ∙ ap (list_any (same_key (key_of d))) (sym are))
 
-    closed : closed_of old ds ≡ closed_of new ds
-    closed = closed-same ds ds old new
-        (all-weaker (λ d. is_present ds (key_of d) ≡ true) (λ d. is_open old (key_of d) ≡ is_open new (key_of d)) ds open-same
+    unchanged : unchanged_of old ds ≡ unchanged_of new ds
+    unchanged = unchanged-same ds ds old new
+        (all-weaker (λ d. is_present ds (key_of d) ≡ true) (λ d. is_changed old (key_of d) ≡ is_changed new (key_of d)) ds changed-same
         (each-present ds))

@@ -1,12 +1,12 @@
 -- Where the declarations of some keys are.
 use Rattle.cdi_report.proofs.Common.{◌≡◌, ℕ, Bool, true, false, cond, List, [], ◌∷◌, flat_map, Option, Some, None, refl, sym, ap, ◌∙◌}
-use Rattle.cdi_report.proofs.Common.{false≢true, same_key, same_key_equiv, Decl, DeclKey, ◌||◌, key_of, list_any, filter, arith, contains}
+use Rattle.cdi_report.proofs.Common.{false≢true, same_key, same_key_equiv, Decl, DeclKey, ◌||◌, ◌++◌, suc, key_of, list_any, filter, arith, contains}
+use Rattle.std.proofs.Common.{◌+◌}
 use Rattle.cdi_report.proofs.Common.{is_of, key_exact, is_open, Unsettled, AreDistinct, open_of, option_map_or, is_marked, marked_from}
 use Rattle.cdi_report.proofs.Common.{decls_at, is_at}
 use Rattle.std.proofs.{Common.position, Common.slice_get, Common.get_or, lemmas.Bool.eq-eqb, lemmas.Bool.eqb-true}
 use Rattle.std.proofs.lemmas.{List.Quantifiers.position-Some, Option.slice_get-get_or}
 use Rattle.cdi_effective.proofs.PlaceLemmas.{own-position}
-use Rattle.cdi_index.proofs.UnderLemmas.{walk}
 
 -- ---- one key
 
@@ -47,18 +47,47 @@ at-keys ds distinct keys p = each keys ∙ any-key keys (slice_get ds p)
     each (k ∷ ks) = ap (λ b. b || list_any (λ x. is_at ds x p) ks) (at-key ds distinct k p)
         ∙ ap (λ b. option_map_or (λ d. same_key (key_of d) k) (slice_get ds p) false || b) (each ks)
 
+-- a declaration that has one of some keys, or one of others
+pub at-both : (keys others : List DeclKey) (o : Option Decl)
+    → (option_map_or (λ d. list_any (same_key (key_of d)) keys) o false || option_map_or (λ d. list_any (same_key (key_of d)) others) o false)
+    ≡ option_map_or (λ d. list_any (same_key (key_of d)) keys || list_any (same_key (key_of d)) others) o false
+at-both keys others None = refl
+at-both keys others (Some d) = refl
+
 -- ---- at positions
 
-alone : (ds : List Decl) → flat_map (λ d. d ∷ []) ds ≡ ds
-alone [] = refl
-alone (d ∷ ds) = ap (λ es. d ∷ es) (alone ds)
+module _ (test : Decl → Bool) (all : List Decl) where
+  none-pass : (ds : List Decl) → ((i : ℕ) → false ≡ option_map_or test (slice_get ds i) false) → filter test ds ≡ []
+  none-pass [] blank = refl
+  none-pass (d ∷ ds) blank = ap (λ b. cond b (d ∷ filter test ds) (filter test ds)) (sym (blank 0)) ∙ none-pass ds (λ i. blank (suc i))
+
+  walk : (n : ℕ) (marks : List Bool) (ds : List Decl) → ((i : ℕ) → slice_get all (n + i) ≡ slice_get ds i)
+      → ((i : ℕ) → is_marked marks i ≡ option_map_or test (slice_get ds i) false)
+      → flat_map (decls_at all) (marked_from n marks) ≡ filter test ds
+  walk n [] ds here marked = sym (none-pass ds marked)
+  walk n (true ∷ ms) [] here marked = absurd (false≢true (sym (marked 0)))
+  walk n (false ∷ ms) [] here marked = walk (n + 1) ms [] (λ i. ap (slice_get all) (omega arith) ∙ here (suc i)) (λ i. marked (suc i))
+  walk n (m ∷ ms) (d ∷ ds) here marked =
+      let rest = walk (n + 1) ms ds (λ i. ap (slice_get all) (omega arith) ∙ here (suc i)) (λ i. marked (suc i)) in
+      by m refl (test d) refl (marked 0) rest
+    where
+      first : decls_at all n ≡ d ∷ []
+      first = ap (λ o. option_map_or (λ e. e ∷ []) o []) (ap (slice_get all) (omega arith) ∙ here 0)
+
+      by : (b : Bool) → m ≡ b → (t : Bool) → test d ≡ t → b ≡ t
+          → flat_map (decls_at all) (marked_from (n + 1) ms) ≡ filter test ds
+          → flat_map (decls_at all) (cond b (n ∷ marked_from (n + 1) ms) (marked_from (n + 1) ms))
+          ≡ cond t (d ∷ filter test ds) (filter test ds)
+      by true e true g h rest = ap (λ ys. ys ++ flat_map (decls_at all) (marked_from (n + 1) ms)) first ∙ ap (λ ys. d ∷ ys) rest
+      by true e false g h rest = absurd (false≢true (sym h))
+      by false e true g h rest = absurd (false≢true h)
+      by false e false g h rest = rest
 
 -- at the positions of those that pass a test are just these
 pub decls-marked : (ds : List Decl) (test : Decl → Bool) (marks : List Bool)
     → ((p : ℕ) → is_marked marks p ≡ option_map_or test (slice_get ds p) false)
     → flat_map (decls_at ds) (marked_from 0 marks) ≡ filter test ds
-decls-marked ds test marks marked =
-    walk (λ d. d ∷ []) test ds 0 marks ds (λ i. ap (slice_get ds) (omega arith)) marked ∙ alone (filter test ds)
+decls-marked ds test marks marked = walk test ds 0 marks ds (λ i. ap (slice_get ds) (omega arith)) marked
 
 -- ---- the open declarations
 
@@ -69,7 +98,8 @@ filter-each test (d ∷ ds) each = ap (λ b. cond b (d ∷ filter test ds) (filt
 
 -- where a report looks at each declaration, these are all
 pub each-open : (u : Unsettled) (ds : List Decl) → u.is_each ≡ true → open_of u ds ≡ ds
-each-open u ds is = filter-each (λ d. is_open u (key_of d)) ds (λ d. ap (λ b. b || contains same_key u.keys (key_of d)) is)
+each-open u ds is = filter-each (λ d. is_open u (key_of d)) ds
+    (λ d. ap (λ b. (b || contains same_key u.keys (key_of d)) || contains same_key u.faulty (key_of d)) is)
 
 filter-same : (test other : Decl → Bool) (ds : List Decl) → ((d : Decl) → test d ≡ other d) → filter test ds ≡ filter other ds
 filter-same test other [] same = refl
@@ -77,7 +107,11 @@ filter-same test other (d ∷ ds) same = ap (λ b. cond b (d ∷ filter test ds)
     ∙ ap (λ es. cond (other d) (d ∷ es) es) (filter-same test other ds same)
 
 -- else they are those that have one of the keys
-pub some-open : (u : Unsettled) (ds : List Decl) (keys : List DeclKey) → u.is_each ≡ false → keys ≡ u.keys.keys
-    → filter (λ d. list_any (same_key (key_of d)) keys) ds ≡ open_of u ds
-some-open u ds keys not_each are = filter-same (λ d. list_any (same_key (key_of d)) keys) (λ d. is_open u (key_of d)) ds
-    (λ d. ap (λ ks. list_any (same_key (key_of d)) ks) are ∙ ap (λ b. b || contains same_key u.keys (key_of d)) (sym not_each))
+pub some-open : (u : Unsettled) (ds : List Decl) (keys faulty : List DeclKey) → u.is_each ≡ false → keys ≡ u.keys.keys
+    → faulty ≡ u.faulty.keys
+    → filter (λ d. list_any (same_key (key_of d)) keys || list_any (same_key (key_of d)) faulty) ds ≡ open_of u ds
+some-open u ds keys faulty not_each are those =
+    filter-same (λ d. list_any (same_key (key_of d)) keys || list_any (same_key (key_of d)) faulty) (λ d. is_open u (key_of d)) ds
+    (λ d. ap (λ ks. list_any (same_key (key_of d)) ks || list_any (same_key (key_of d)) faulty) are
+    ∙ ap (λ ks. contains same_key u.keys (key_of d) || list_any (same_key (key_of d)) ks) those
+    ∙ ap (λ b. (b || contains same_key u.keys (key_of d)) || contains same_key u.faulty (key_of d)) (sym not_each))

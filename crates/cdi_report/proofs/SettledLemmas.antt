@@ -1,7 +1,7 @@
 -- A report that looks at some declarations tells the faults of all.
 use Rattle.cdi_report.proofs.Common.{◌≡◌, Bool, true, false, List, [], ◌∷◌, map, Some, None, refl, sym, ap, ◌∙◌, inl, inr, AllByRecursion}
 use Rattle.cdi_report.proofs.Common.{cases_Bool, false≢true, or_left, or_right, same_key, Decl, DeclKey, PointDecl, ◌||◌, key_of, ChainKey}
-use Rattle.cdi_report.proofs.Common.{Key, wanted_by, not, ◌&&◌, length, list_any, filter, arith, contains, Promised, is_open, AreSettled}
+use Rattle.cdi_report.proofs.Common.{Key, wanted_by, not, ◌&&◌, length, list_any, filter, arith, contains, Promised, is_changed, is_open, AreSettled, or_parts, changed_of}
 use Rattle.cdi_report.proofs.Common.{HaveNoneTogether, Unsettled, AreDistinct, each-found, IsFound, and_from, open_of, list_all, has_key}
 use Rattle.cdi_report.proofs.Common.{is_wanted, AskForRest, EvaluatesSome, faults_of, has_faults, AreChainsKnown, IsKnown, each-passes}
 use Rattle.cdi_report.proofs.Common.{flat_map, all-weaker, all-filter}
@@ -75,7 +75,7 @@ chains-still ds knows more (p ∷ ps) still all = grind (arith, chains-still ds 
 -- they are where more is known
 pub settled-still : (ds : List Decl) (knows more : Key → Bool) (book : List Promised) (u : Unsettled)
     → ((key : Key) → knows key ≡ true → more key ≡ true) → AreSettled ds knows book u → AreSettled ds more book u
-settled-still ds knows more book u still settled = grind (arith, settled.each, settled.apart, all-still, chains-still)
+settled-still ds knows more book u still settled = grind (arith, settled.known, settled.faultless, settled.apart, all-still, chains-still)
 
 none-of-length : {A : Type 0} (xs : List A) → nat_lt 0 (length xs) ≡ false → xs ≡ []
 none-of-length [] e = refl
@@ -91,7 +91,7 @@ module _ (ds : List Decl) (knows : Key → Bool) (book : List Promised) (u : Uns
   rest-asked distinct key wants new = any-filter stands-open (λ d. has_key (wanted_by d) key) ds
       (all-weaker (IsFound ds) (λ d. stands-open d ≡ false → has_key (wanted_by d) key ≡ false) ds
       (λ d found closed. elim (cases_Bool (has_key (wanted_by d) key)) [
-        | inl has ↦ absurd (false≢true (sym new ∙ each-passes knows (wanted_by d) key (settled.each d found closed).known.keys has))
+        | inl has ↦ absurd (false≢true (sym new ∙ each-passes knows (wanted_by d) key (settled.known d found (or_parts (is_changed u (key_of d)) _ closed).0).keys has))
         | inr none ↦ none
       ])
       (each-found ds distinct)) wants
@@ -100,30 +100,29 @@ module _ (ds : List Decl) (knows : Key → Bool) (book : List Promised) (u : Uns
   pub tells-all : AreDistinct ds → flat_map (faults_of ds book) (open_of u ds) ≡ flat_map (faults_of ds book) ds
   tells-all distinct = flat-filter (faults_of ds book) stands-open ds
       (all-weaker (IsFound ds) (λ d. stands-open d ≡ false → faults_of ds book d ≡ []) ds
-      (λ d found closed. (settled.each d found closed).faultless)
+      settled.faultless
       (each-found ds distinct))
 
   -- those that have none are settled where all is known
-  pub settled-now : (more : Key → Bool) (now : Unsettled) → ((key : Key) → is_wanted ds key ≡ true → more key ≡ true) → now.is_each ≡ false
-      → ((k : DeclKey) → contains same_key now.keys k
+  pub settled-now : (more : Key → Bool) (now : Unsettled) → ((key : Key) → is_wanted ds key ≡ true → more key ≡ true)
+      → ((k : DeclKey) → is_changed now k ≡ false)
+      → ((k : DeclKey) → contains same_key now.faulty k
       ≡ list_any (λ d. same_key (key_of d) k && has_faults ds book d) (open_of u ds))
       → HaveNoneTogether ds ds now.anew → AreSettled ds more book now
-  settled-now more now all not_each are together = record {
-    each = λ d found closed. record {
-      known = is-known ds more all d found;
-      faultless = elim (cases_Bool (stands-open d)) [
-        | inl opened ↦ none-of-length (faults_of ds book d) (elim (cases_Bool (has_faults ds book d)) [
-          | inl some ↦ absurd (false≢true (sym closed
-              ∙ ap (λ b. b || contains same_key now.keys (key_of d)) not_each
-              ∙ are (key_of d)
-              ∙ found-filter stands-open (λ e. same_key (key_of e) (key_of d) && has_faults ds book e) ds d found opened
-              (and_from (same_key (key_of d) (key_of d)) (has_faults ds book d) (same_decl_equiv.refl (key_of d)) some)))
-          | inr none ↦ none
-        ])
-        | inr shut ↦ (settled.each d found shut).faultless
-      ];
-    };
-    apart = together-filtered ds ds now.anew (λ d. not (is_open now (key_of d))) together;
+  settled-now more now all same are together = record {
+    known = λ d found unchanged. is-known ds more all d found;
+    faultless = λ d found closed. elim (cases_Bool (stands-open d)) [
+      | inl opened ↦ none-of-length (faults_of ds book d) (elim (cases_Bool (has_faults ds book d)) [
+        | inl some ↦ absurd (false≢true (sym closed
+            ∙ ap (λ b. b || contains same_key now.faulty (key_of d)) (same (key_of d))
+            ∙ are (key_of d)
+            ∙ found-filter stands-open (λ e. same_key (key_of e) (key_of d) && has_faults ds book e) ds d found opened
+            (and_from (same_key (key_of d) (key_of d)) (has_faults ds book d) (same_decl_equiv.refl (key_of d)) some)))
+        | inr none ↦ none
+      ])
+      | inr shut ↦ settled.faultless d found shut
+    ];
+    apart = together-filtered ds ds now.anew (λ d. not (is_changed now (key_of d))) together;
   }
 
 -- the open ones are there
@@ -132,3 +131,10 @@ pub open-found : {P : Type 0} (value : P → Decl) (ps : List P) (ds : List Decl
     → All (λ p. IsFound ds (value p)) ps
 open-found value ps ds u distinct are = all-lent (IsFound ds) value ps (open_of u ds) are
     (all-filter (IsFound ds) (λ d. is_open u (key_of d)) ds (each-found ds distinct))
+
+-- those of them that may have changed are there too
+pub changed-found : {P : Type 0} (value : P → Decl) (ps : List P) (ds : List Decl) (u : Unsettled) → AreDistinct ds
+    → map value ps ≡ changed_of u ds
+    → All (λ p. IsFound ds (value p)) ps
+changed-found value ps ds u distinct are = all-lent (IsFound ds) value ps (changed_of u ds) are
+    (all-filter (IsFound ds) (λ d. is_changed u (key_of d)) ds (each-found ds distinct))

@@ -1,7 +1,7 @@
 -- Declarations that have no faults together.
 use Rattle.cdi_report.proofs.Common.{not-true, ◌≡◌, Bool, true, false, cond, List, [], ◌∷◌, ◌++◌, refl, sym, ap, subst, ◌∙◌, inl, inr}
-use Rattle.cdi_report.proofs.Common.{AllByRecursion, cases_Bool, false≢true, Decl, DeclKey, key_of, not, filter, closed_of, is_open}
-use Rattle.cdi_report.proofs.Common.{HaveNoneTogether, Unsettled, AreDistinct, IsAlike, AreNamed, beans, open_of, list_all, is_chainless}
+use Rattle.cdi_report.proofs.Common.{AllByRecursion, cases_Bool, false≢true, or_left, Decl, DeclKey, key_of, not, filter, unchanged_of, is_changed, is_open}
+use Rattle.cdi_report.proofs.Common.{HaveNoneTogether, Unsettled, AreDistinct, IsAlike, AreNamed, beans, changed_of, list_all, is_chainless}
 use Rattle.cdi_report.proofs.Common.{is_nameless, is_needless, faults_together, looks_at_all, Together, arith}
 use Rattle.std.proofs.lemmas.Bool.{not_from_false}
 use Rattle.cdi_validate.proofs.ChainlessLemmas.{no_twice_faults, twice_filtered, twice_stays, twice_whole}
@@ -37,16 +37,16 @@ together-filtered ds own anew p apart = record {
 }
 
 -- edits leave those alike that have none together
-pub together-stay : (ds es : List Decl) (u : Unsettled) → AreDistinct ds → AreDistinct es → closed_of u ds ≡ closed_of u es
-    → AllByRecursion (IsAlike ds es) (closed_of u es) → (AreNamed ds → AreNamed es) → HaveNoneTogether ds (closed_of u ds) u.anew
-    → HaveNoneTogether es (closed_of u es) u.anew
+pub together-stay : (ds es : List Decl) (u : Unsettled) → AreDistinct ds → AreDistinct es → unchanged_of u ds ≡ unchanged_of u es
+    → AllByRecursion (IsAlike ds es) (unchanged_of u es) → (AreNamed ds → AreNamed es) → HaveNoneTogether ds (unchanged_of u ds) u.anew
+    → HaveNoneTogether es (unchanged_of u es) u.anew
 together-stay ds es u before after same alike named apart = record {
-  names = λ known. clash_stays ds es (closed_of u es) alike (subst (λ own. HaveNoClash ds own) same (apart.names known));
+  names = λ known. clash_stays ds es (unchanged_of u es) alike (subst (λ own. HaveNoClash ds own) same (apart.names known));
   circles = λ known.
-      let p : Decl → Bool = λ d. not (is_open u (key_of d)) in
+      let p : Decl → Bool = λ d. not (is_changed u (key_of d)) in
       let names : AreNamed es = named (apart.circles known).0 in
       (names, circle_stays ds es p before after same alike (named_outside es p names) (apart.circles known).1);
-  chains = λ known. twice_stays ds es (closed_of u es) alike (subst (λ own. HaveNoneTwice ds own) same (apart.chains known));
+  chains = λ known. twice_stays ds es (unchanged_of u es) alike (subst (λ own. HaveNoneTwice ds own) same (apart.chains known));
 }
 
 -- ---- where those at which it looks can have none together
@@ -58,19 +58,19 @@ passed-all p f [] all = tt
 passed-all p f (x ∷ xs) all = grind (arith, passed-all p f xs, false≢true)
 
 module _ (ds : List Decl) (u : Unsettled) where
-  pub whole-names : HaveNoClash ds (closed_of u ds) → list_all (is_nameless ds) (open_of u ds) ≡ true → HaveNoClash ds ds
-  whole-names apart all = clash_whole ds ds (λ d. not (is_open u (key_of d)))
-      (passed-all (λ d. is_open u (key_of d)) (is_nameless ds) ds all) apart
+  pub whole-names : HaveNoClash ds (unchanged_of u ds) → list_all (is_nameless ds) (changed_of u ds) ≡ true → HaveNoClash ds ds
+  whole-names apart all = clash_whole ds ds (λ d. not (is_changed u (key_of d)))
+      (passed-all (λ d. is_changed u (key_of d)) (is_nameless ds) ds all) apart
 
-  pub whole-circles : AreDistinct ds → AreNamed ds → HaveNoCircle ds (closed_of u ds) → list_all (is_needless ds) (open_of u ds) ≡ true
+  pub whole-circles : AreDistinct ds → AreNamed ds → HaveNoCircle ds (unchanged_of u ds) → list_all (is_needless ds) (changed_of u ds) ≡ true
       → HaveNoCircle ds ds
   whole-circles distinct named apart all =
-      circle_whole ds (λ d. not (is_open u (key_of d))) distinct named
-      (passed-all (λ d. is_open u (key_of d)) (is_needless ds) ds all) apart
+      circle_whole ds (λ d. not (is_changed u (key_of d))) distinct named
+      (passed-all (λ d. is_changed u (key_of d)) (is_needless ds) ds all) apart
 
-  pub whole-chains : HaveNoneTwice ds (closed_of u ds) → list_all (is_chainless ds) (open_of u ds) ≡ true → HaveNoneTwice ds ds
-  whole-chains apart all = twice_whole ds ds (λ d. not (is_open u (key_of d)))
-      (passed-all (λ d. is_open u (key_of d)) (is_chainless ds) ds all) apart
+  pub whole-chains : HaveNoneTwice ds (unchanged_of u ds) → list_all (is_chainless ds) (changed_of u ds) ≡ true → HaveNoneTwice ds ds
+  whole-chains apart all = twice_whole ds ds (λ d. not (is_changed u (key_of d)))
+      (passed-all (λ d. is_changed u (key_of d)) (is_chainless ds) ds all) apart
 
 -- ---- what is told of all
 
@@ -108,18 +108,18 @@ module _ (less more : Unsettled) (looks : LooksAtMore less more) where
   known-before : (a b : Bool) → (a ≡ true → b ≡ true) → b ≡ false → a ≡ false
   known-before a b still e = grind (arith, false≢true)
 
-  shut-before : (k : DeclKey) → is_open more k ≡ false → is_open less k ≡ false
-  shut-before k = known-before (is_open less k) (is_open more k) (looks.at k)
+  same-before : (k : DeclKey) → is_changed more k ≡ false → is_changed less k ≡ false
+  same-before k = known-before (is_changed less k) (is_changed more k) (looks.changed k)
 
-  closed-less : (ds : List Decl) → closed_of more ds ≡ filter (λ d. not (is_open more (key_of d))) (closed_of less ds)
-  closed-less ds = sym (filter-filter (λ d. not (is_open less (key_of d))) (λ d. not (is_open more (key_of d))) ds
-      (λ d shut. not_from_false (is_open less (key_of d)) (shut-before (key_of d) (not-true (is_open more (key_of d)) shut))))
+  unchanged-less : (ds : List Decl) → unchanged_of more ds ≡ filter (λ d. not (is_changed more (key_of d))) (unchanged_of less ds)
+  unchanged-less ds = sym (filter-filter (λ d. not (is_changed less (key_of d))) (λ d. not (is_changed more (key_of d))) ds
+      (λ d same. not_from_false (is_changed less (key_of d)) (same-before (key_of d) (not-true (is_changed more (key_of d)) same))))
 
-  more-together : (ds : List Decl) → HaveNoneTogether ds (closed_of less ds) less.anew → HaveNoneTogether ds (closed_of more ds) more.anew
+  more-together : (ds : List Decl) → HaveNoneTogether ds (unchanged_of less ds) less.anew → HaveNoneTogether ds (unchanged_of more ds) more.anew
   more-together ds apart =
-      let left : HaveNoneTogether ds (closed_of more ds) less.anew =
-      subst (λ own. HaveNoneTogether ds own less.anew) (sym (closed-less ds))
-      (together-filtered ds (closed_of less ds) less.anew (λ d. not (is_open more (key_of d))) apart) in
+      let left : HaveNoneTogether ds (unchanged_of more ds) less.anew =
+      subst (λ own. HaveNoneTogether ds own less.anew) (sym (unchanged-less ds))
+      (together-filtered ds (unchanged_of less ds) less.anew (λ d. not (is_changed more (key_of d))) apart) in
       record {
         names = λ known. left.names (known-before less.anew.names more.anew.names looks.names known);
         circles = λ known. left.circles (known-before less.anew.circles more.anew.circles looks.circles known);
@@ -128,17 +128,20 @@ module _ (less more : Unsettled) (looks : LooksAtMore less more) where
 
 pub more_is_settled : MoreIsSettled
 more_is_settled ds knows book less more looks settled = record {
-  each = λ d found shut. settled.each d found (shut-before less more looks (key_of d) shut);
+  known = λ d found same. settled.known d found (same-before less more looks (key_of d) same);
+  faultless = λ d found shut. settled.faultless d found
+      (known-before less more looks (is_open less (key_of d)) (is_open more (key_of d)) (looks.at (key_of d)) shut);
   apart = more-together less more looks ds settled.apart;
 }
 
 -- ---- where nothing is left
 
 -- where a report looks at each declaration, and at all anew
-pub settled_anyway : (u : Unsettled) → ((k : DeclKey) → is_open u k ≡ true) → u.anew.names ≡ true → u.anew.circles ≡ true
+pub settled_anyway : (u : Unsettled) → ((k : DeclKey) → is_changed u k ≡ true) → u.anew.names ≡ true → u.anew.circles ≡ true
     → u.anew.chains ≡ true → IsSettledAnyway u
 settled_anyway u each names circles chains ds knows book = record {
-  each = λ d found shut. absurd (false≢true (sym shut ∙ each (key_of d)));
+  known = λ d found same. absurd (false≢true (sym same ∙ each (key_of d)));
+  faultless = λ d found shut. absurd (false≢true (sym shut ∙ or_left (is_changed u (key_of d)) _ (each (key_of d))));
   apart = record {
     names = λ known. absurd (false≢true (sym known ∙ names));
     circles = λ known. absurd (false≢true (sym known ∙ circles));

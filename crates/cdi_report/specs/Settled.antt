@@ -14,9 +14,13 @@ use Rattle.cdi_validate.specs.declared.deployment.Together.{Together}
 use Rattle.cdi_report.specs.Known.{IsKnown}
 use Rattle.cdi_report.specs.declared.unsettled.Unsettled.{Unsettled}
 
--- a report looks at the declaration of the key
+-- something may have changed since the last report on which the faults of the declaration of the key rest
+abbrev pub is_changed : Unsettled → DeclKey → Bool
+is_changed u k = u.is_each || contains same_key u.keys k
+
+-- a report looks at the declaration of the key: it may have changed, or it had faults at the last report
 abbrev pub is_open : Unsettled → DeclKey → Bool
-is_open u k = u.is_each || contains same_key u.keys k
+is_open u k = is_changed u k || contains same_key u.faulty k
 
 -- the declaration of the key is there
 abbrev pub is_present : List Decl → DeclKey → Bool
@@ -30,14 +34,13 @@ are_many u ds = nat_lt (2 * length ds + 64) (index_set_len u.keys)
 abbrev pub open_of : Unsettled → List Decl → List Decl
 open_of u ds = filter (λ d. is_open u (key_of d)) ds
 
--- the others, in order
-abbrev pub closed_of : Unsettled → List Decl → List Decl
-closed_of u ds = filter (λ d. not (is_open u (key_of d))) ds
+-- those that may have changed, in order
+abbrev pub changed_of : Unsettled → List Decl → List Decl
+changed_of u ds = filter (λ d. is_changed u (key_of d)) ds
 
--- A declaration has no faults, and all is known on which that rests.
-pub record IsSettled (ds : List Decl) (knows : Key → Bool) (book : List Promised) (d : Decl) : Type 0 where
-  pub known : IsKnown ds knows d
-  pub faultless : faults_of ds book d ≡ []
+-- the others, in order
+abbrev pub unchanged_of : Unsettled → List Decl → List Decl
+unchanged_of u ds = filter (λ d. not (is_changed u (key_of d))) ds
 
 -- Some declarations have no faults together, of those for which all are not looked at anew. Texts tell beans apart where all have a name
 -- by the grammar.
@@ -46,14 +49,17 @@ pub record HaveNoneTogether (ds own : List Decl) (anew : Together) : Type 0 wher
   pub circles : anew.circles ≡ false → AreNamed ds × HaveNoCircle ds own
   pub chains : anew.chains ≡ false → HaveNoneTwice ds own
 
--- So it is with each declaration at which a report does not look, and these have no faults together.
+-- All is known on which the faults of declarations rest that have not changed, and these have no faults together. Those at which a report
+-- does not look have none at all.
 pub record AreSettled (ds : List Decl) (knows : Key → Bool) (book : List Promised) (u : Unsettled) : Type 0 where
-  pub each : (d : Decl) → find_decl (kind_of d) (name_of_decl d) ds ≡ Some d → is_open u (key_of d) ≡ false → IsSettled ds knows book d
-  pub apart : HaveNoneTogether ds (closed_of u ds) u.anew
+  pub known : (d : Decl) → find_decl (kind_of d) (name_of_decl d) ds ≡ Some d → is_changed u (key_of d) ≡ false → IsKnown ds knows d
+  pub faultless : (d : Decl) → find_decl (kind_of d) (name_of_decl d) ds ≡ Some d → is_open u (key_of d) ≡ false → faults_of ds book d ≡ []
+  pub apart : HaveNoneTogether ds (unchanged_of u ds) u.anew
 
 -- A report looks at no less than another.
 pub record LooksAtMore (less more : Unsettled) : Type 0 where
   pub at : (k : DeclKey) → is_open less k ≡ true → is_open more k ≡ true
+  pub changed : (k : DeclKey) → is_changed less k ≡ true → is_changed more k ≡ true
   pub names : less.anew.names ≡ true → more.anew.names ≡ true
   pub circles : less.anew.circles ≡ true → more.anew.circles ≡ true
   pub chains : less.anew.chains ≡ true → more.anew.chains ≡ true

@@ -13,7 +13,7 @@ use Rattle.cdi_subjects.specs.Subjects.{subjects_at_fault}
 use Rattle.cdi_live.specs.Concerned.{Concerns}
 use Rattle.cdi_live.specs.State.{knows, State, TakesOver}
 use Rattle.cdi_report.specs.Known.{IsKnown}
-use Rattle.cdi_report.specs.Settled.{is_open, AreSettled}
+use Rattle.cdi_report.specs.Settled.{is_changed, AreSettled}
 use Rattle.cdi_report.specs.declared.unsettled.Unsettled.{Unsettled}
 
 -- A draft that is taken over does not concern a declaration that is there after it.
@@ -42,14 +42,14 @@ abbrev pub LeftStay : Type 0
 LeftStay = (old : State) (draft : Drafted) (next : Staged) (new : State) (keys : List DeclKey) (d : Decl)
     → IsLeft old draft next new keys d → IsKnown old.decls (knows old) d → Stays old new d
 
--- The declarations that a draft concerns are among those at which a report looks, if the draft is staged.
+-- The declarations that a draft concerns are among those that may have changed, if the draft is staged.
 pub record IsReadied (old : State) (next : Staged) (u : Unsettled) : Type 0 where
   pub draft : Drafted
   pub keys : List DeclKey
   pub edited : IsEdited old.decls draft
   pub concerned : Concerns old draft keys
   pub staged : next.decls ≡ draft.decls
-  pub looked : (k : DeclKey) → is_among keys k ≡ true → is_open u k ≡ true
+  pub looked : (k : DeclKey) → is_among keys k ≡ true → is_changed u k ≡ true
   pub named : (k : DeclKey) → is_among keys k ≡ true → is_name k.name ≡ true
 
 -- Once it is taken over, all others are settled that were.

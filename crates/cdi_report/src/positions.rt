@@ -12,17 +12,27 @@ use cdi_model::{Decl, DeclKey, Decls};
 use cdi_positions::PositionSet;
 use std::alloc::{AllocError, Global};
 
-/// The positions of the declarations of some keys. It takes no memory, and looks at these alone.
-pub(crate) fn positions_of(decls: &Decls, keys: &[DeclKey]) -> PositionSet
+/// The positions of the declarations of some keys and of others. It takes no memory, and looks at these alone.
+pub(crate) fn positions_of(decls: &Decls, keys: &[DeclKey], others: &[DeclKey]) -> PositionSet
     requires { AreDistinct decls.now }
     ensures { (p : _) → is_marked result p
-        ≡ option_map_or (λ d. list_any (same_key (key_of d)) keys.now) (slice_get decls.now p) false }
+        ≡ option_map_or (λ d. list_any (same_key (key_of d)) keys.now || list_any (same_key (key_of d)) others.now) (slice_get decls.now p) false }
 {
     let mut positions = PositionSet::new();
-    for key in keys {
-        mark(decls, key, &mut positions);
-    }
+    mark_each(decls, keys, &mut positions);
+    mark_each(decls, others, &mut positions);
     positions
+}
+
+/// Marks the positions of the declarations of some keys.
+fn mark_each(decls: &Decls, keys: &[DeclKey], positions: &mut PositionSet)
+    requires { length positions.old ≡ limit }
+    ensures size { length positions.new ≡ limit }
+    ensures marks { (p : _) → is_marked positions.new p ≡ (is_marked positions.old p || list_any (λ k. is_at decls.now k p) keys.now) }
+{
+    for key in keys {
+        mark(decls, key, positions);
+    }
 }
 
 /// Marks the position of the declaration of a key, if there is one.

@@ -10,7 +10,7 @@ ghost use Rattle.cdi_observe.specs.Lending.{IsEvaluated};
 ghost use Rattle.cdi_observe.specs.Wanted.{wanted};
 ghost use Rattle.cdi_validate.specs.Among.{faults_together, has_faults, looks_at_all};
 ghost use Rattle.cdi_validate.specs.Faults.{faults, faults_of};
-ghost use Rattle.cdi_report.specs.Settled.{closed_of, open_of, AreSettled, HaveNoneTogether};
+ghost use Rattle.cdi_report.specs.Settled.{open_of, unchanged_of, AreSettled, HaveNoneTogether};
 
 use crate::unsettled::Unsettled;
 use cdi_bodies::Bodies;
@@ -25,8 +25,9 @@ impl Unsettled {
     /// tells it (CDI 4.0, Problems detected automatically by the container). It asks for what is not known, and leaves those of these
     /// declarations that have faults. It looks at these alone, with one exception: for the faults that several declarations have
     /// together it looks at all, of names, of circles and of beans that specialize one each by itself, where one of these may have
-    /// such a fault. It takes memory for the faults and for what they are found by, and where the view does. Where none is left, some
-    /// of the keys were asked, and the same declarations are left. An edit that is staged stays where each of the keys is known.
+    /// such a fault that has changed since the last report. It takes memory for the faults and for what they are found by, and where
+    /// the view does. Where none is left, some of the keys were asked, and the same declarations are left. An edit that is staged
+    /// stays where each of the keys is known.
     pub fn report<V: View, B: Bodies>(
         &mut self,
         alloc: Global,
@@ -49,11 +50,7 @@ impl Unsettled {
         let list = self.among(alloc, &decls)?;
         evaluate_rest(alloc, view, list.as_slice())?;
         let found = find(alloc, &*view, book, self, list.as_slice())?;
-        *self = Unsettled {
-            is_each: false,
-            keys: found.keys,
-            anew: found.together,
-        };
+        self.settle(found.keys, found.together);
         Ok(found.faults)
     }
 }
@@ -69,7 +66,7 @@ fn find<V: View, B: Bodies>(
     requires distinct { AreDistinct (V.list view.now) }
     requires evaluated { IsEvaluated (V.list view.now) (V.kept view.now) }
     requires decls { map (λ d. d.now) decls.now ≡ open_of open.now (V.list view.now) }
-    requires apart { HaveNoneTogether (V.list view.now) (closed_of open.now (V.list view.now)) open.now.anew }
+    requires apart { HaveNoneTogether (V.list view.now) (unchanged_of open.now (V.list view.now)) open.now.anew }
     ensures faults { IfOk result (λ found. found.faults.items
         ≡ flat_map (faults_of (V.list view.now) (B.promises book.now)) (open_of open.now (V.list view.now))
         ++ faults_together (V.list view.now) looks_at_all) }
@@ -77,6 +74,7 @@ fn find<V: View, B: Bodies>(
         ≡ list_any (λ d. same_key (key_of d) k && has_faults (V.list view.now) (B.promises book.now) d) (open_of open.now (V.list view.now))) }
     ensures together { IfOk result (λ found. HaveNoneTogether (V.list view.now) (V.list view.now) found.together) }
 {
-    let together = open.together(alloc, view, decls)?;
+    let changed = open.changed(alloc, decls)?;
+    let together = open.together(alloc, view, changed.as_slice())?;
     faults_among(alloc, view, book, decls, together)
 }

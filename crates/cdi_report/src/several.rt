@@ -2,7 +2,7 @@
 ghost use Rattle.std.specs.Prelude.{◌≡◌, map, IfOk};
 ghost use Rattle.cdi_model.specs.DeclList.{AreDistinct};
 ghost use Rattle.cdi_observe.specs.Lending.{IsEvaluated};
-ghost use Rattle.cdi_report.specs.Settled.{closed_of, open_of, HaveNoneTogether};
+ghost use Rattle.cdi_report.specs.Settled.{changed_of, unchanged_of, HaveNoneTogether};
 
 use crate::unsettled::Unsettled;
 use cdi_model::Decl;
@@ -12,7 +12,7 @@ use std::alloc::{AllocError, Global};
 
 impl Unsettled {
     /// For which faults that several declarations have together a report looks at all: for names, for circles and for beans that
-    /// specialize one each by itself, unless there were none and those at which it looks, which these are, can have none. For
+    /// specialize one each by itself, unless there were none and those that may have changed, which these are, can have none. For
     /// the others there are none. It takes memory for the names of interceptors, and looks at these declarations alone.
     pub(crate) fn together<V: View>(
         &self,
@@ -22,8 +22,8 @@ impl Unsettled {
     ) -> Result<Together, AllocError>
         requires distinct { AreDistinct (V.list view.now) }
         requires evaluated { IsEvaluated (V.list view.now) (V.kept view.now) }
-        requires decls { map (λ d. d.now) decls.now ≡ open_of self.now (V.list view.now) }
-        requires apart { HaveNoneTogether (V.list view.now) (closed_of self.now (V.list view.now)) self.now.anew }
+        requires decls { map (λ d. d.now) decls.now ≡ changed_of self.now (V.list view.now) }
+        requires apart { HaveNoneTogether (V.list view.now) (unchanged_of self.now (V.list view.now)) self.now.anew }
         ensures { IfOk result (λ together. HaveNoneTogether (V.list view.now) (V.list view.now) together) }
     {
         let names = self.anew.names || !are_nameless(view, decls);

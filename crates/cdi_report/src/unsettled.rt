@@ -1,11 +1,12 @@
 //! The declarations at which a report looks.
-ghost use Rattle.std.specs.Prelude.{◌≡◌, ◌||◌, true, false, map, IfOk, OnOk};
+ghost use Rattle.std.specs.Prelude.{◌≡◌, ◌++◌, ◌∷◌, ◌||◌, [], true, false, filter, map, IfOk, OnOk};
 ghost use Rattle.indexmap.specs.IndexSet.{contains};
+ghost use Rattle.cdi_model.specs.Decl.{key_of};
 ghost use Rattle.cdi_model.specs.DeclKey.{same_key};
 ghost use Rattle.cdi_model.specs.DeclList.{AreDistinct};
 ghost use Rattle.cdi_model.specs.Edits.{is_among};
 ghost use Rattle.cdi_model.specs.Grammar.{is_name};
-ghost use Rattle.cdi_report.specs.Settled.{are_many, is_open, is_present, open_of, AreSettled, IsSettledAnyway, LooksAtMore};
+ghost use Rattle.cdi_report.specs.Settled.{are_many, is_changed, is_open, is_present, open_of, AreSettled, IsSettledAnyway, LooksAtMore};
 ghost use Rattle.cdi_report.specs.Settled.{MoreIsSettled};
 ghost use Rattle.cdi_report.specs.Stays.{SettledStay};
 
@@ -18,14 +19,17 @@ use std::alloc::{AllocError, Global};
 /// So many keys of gone declarations are kept in any case.
 const SPARE_KEYS: usize = 64;
 
-/// The declarations at which a report looks: those that have faults, and those of which something on which their faults rest may
-/// have changed. No other has a fault, and all is known on which that rests. The others have no faults together either, unless
-/// all declarations are looked at anew for these.
+/// The declarations at which a report looks: those of which something on which their faults rest may have changed since the last
+/// report, and those that had faults then. No other has a fault. All is known on which the faults of those rest that have not
+/// changed. These have no faults together, unless all declarations are looked at anew for such.
 #[derive(Drop)]
 pub struct Unsettled {
-    /// Whether these are all declarations.
+    /// Whether all declarations may have changed.
     pub(crate) is_each: bool,
+    /// Those that may have changed.
     pub(crate) keys: IndexSet<DeclKey>,
+    /// Those that had faults at the last report.
+    pub(crate) faulty: IndexSet<DeclKey>,
     pub(crate) anew: Together,
 }
 
@@ -37,6 +41,7 @@ impl Unsettled {
         Unsettled {
             is_each: false,
             keys: IndexSet::new(alloc),
+            faulty: IndexSet::new(alloc),
             anew: Together {
                 names: false,
                 circles: false,
@@ -45,10 +50,10 @@ impl Unsettled {
         }
     }
 
-    /// Adds those of some keys. Without memory some of them may have been added. The last clauses say that over a draft all stay
-    /// settled that it does not concern, and that they do where more are looked at.
+    /// Adds those of some keys, which may have changed. Without memory some of them may have been added. The last clauses say that
+    /// over a draft all stay settled that it does not concern, and that they do where more are looked at.
     pub fn add(&mut self, keys: &[DeclKey]) -> Result<(), AllocError>
-        ensures ok { OnOk result ((k : _) → is_open self.new k ≡ (is_open self.old k || is_among keys.now k)) }
+        ensures ok { OnOk result ((k : _) → is_changed self.new k ≡ (is_changed self.old k || is_among keys.now k)) }
         ensures named { OnOk result ((k : _) → is_among keys.now k ≡ true → is_name k.name ≡ true) }
         ensures more { LooksAtMore self.old self.new }
         ensures stays { SettledStay }
@@ -59,7 +64,7 @@ impl Unsettled {
         Ok(())
     }
 
-    /// Adds each, and all are looked at anew. It takes no memory.
+    /// Each may have changed, and all are looked at anew. It takes no memory.
     pub fn add_each(&mut self)
         ensures { IsSettledAnyway self.new }
     {
@@ -80,7 +85,8 @@ impl Unsettled {
         }
     }
 
-    /// Those of some declarations, in order. It takes memory for a list of them, and looks at no others unless it is all.
+    /// Those of some declarations at which a report looks, in order. It takes memory for a list of them, and looks at no others
+    /// unless it is all.
     pub(crate) fn among<'a>(
         &self,
         alloc: Global,
@@ -92,7 +98,51 @@ impl Unsettled {
         if self.is_each {
             return all_decls(alloc, decls);
         }
-        decls_at(alloc, decls, &positions_of(decls, self.keys.as_slice()))
+        let positions = positions_of(decls, self.keys.as_slice(), self.faulty.as_slice());
+        decls_at(alloc, decls, &positions)
+    }
+
+    /// Those of some declarations that may have changed, in order. It takes memory for a list of them.
+    pub(crate) fn changed<'a>(
+        &self,
+        alloc: Global,
+        decls: &[&'a Decl],
+    ) -> Result<Vec<&'a Decl>, AllocError>
+        ensures { IfOk result (λ list. map (λ d. d.now) list.items
+            ≡ filter (λ d. is_changed self.now (key_of d)) (map (λ d. d.now) decls.now)) }
+    {
+        let mut list = Vec::new(alloc);
+        for decl in decls {
+            self.push_changed(decl, &mut list)?;
+        }
+        Ok(list)
+    }
+
+    /// Appends a declaration, if it may have changed.
+    fn push_changed<'a>(&self, decl: &'a Decl, list: &mut Vec<&'a Decl>) -> Result<(), AllocError>
+        ensures { OnOk result (map (λ d. d.now) list.new.items
+            ≡ map (λ d. d.now) list.old.items ++ filter (λ d. is_changed self.now (key_of d)) (decl.now ∷ [])) }
+    {
+        if self.is_each || self.keys.contains(&decl.key()) {
+            list.push(decl)?;
+        }
+        Ok(())
+    }
+
+    /// What a report leaves that found this. It takes no memory.
+    pub(crate) fn settle(&mut self, faulty: IndexSet<DeclKey>, anew: Together)
+        ensures each { self.new.is_each ≡ false }
+        ensures changed { (k : _) → is_changed self.new k ≡ false }
+        ensures faulty { self.new.faulty ≡ faulty }
+        ensures anew { self.new.anew ≡ anew }
+    {
+        self.is_each = false;
+        // To clear a set takes the time of its room.
+        if !self.keys.is_empty() {
+            self.keys.clear();
+        }
+        self.faulty = faulty;
+        self.anew = anew;
     }
 }
 

@@ -1,4 +1,4 @@
-use Rattle.cdi_live.proofs.Common.{◌≡◌, List, bytes_eq, ℕ, ◌||◌, flat_map, holds, take, types_of_key, contains}
+use Rattle.cdi_live.proofs.Common.{◌≡◌, List, bytes_eq, ℕ, flat_map, holds, take, types_of_key, contains}
 use Rattle.cdi_live.proofs.suspects.suspects.Given as goal
 
 abbrev pub invariant-loop-key : goal.invariant-loop-key

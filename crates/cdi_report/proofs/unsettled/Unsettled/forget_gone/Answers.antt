@@ -14,5 +14,5 @@ pub returns-then-are_many-clause-settled : goal.returns-then-are_many-clause-set
 returns-then-are_many-clause-settled c =
     let ds = c.args.decls.now in
     let old = c.args.self.now in
-    settled-forgotten ds old (record old { keys = c.retain.new.self }) refl refl
+    settled-forgotten ds old (record old { keys = c.retain.new.self }) refl refl refl
     (filter_same _ (is_present ds) _ (λ x b f call. search rules) _ _ c.retain.ensures.filtered)

@@ -1,5 +1,5 @@
-use Rattle.cdi_report.proofs.Common.{false, ◌++◌, refl, sym, ap, subst, ◌∙◌, same_key, key_of, ◌&&◌, list_any, closed_of, AreSettled}
-use Rattle.cdi_report.proofs.Common.{HaveNoneTogether, Unsettled, open_of, EvaluatesSome, faults_of, has_faults, faults_together}
+use Rattle.cdi_report.proofs.Common.{◌++◌, sym, ap, subst, ◌∙◌, same_key, key_of, ◌&&◌, list_any, unchanged_of, AreSettled, contains}
+use Rattle.cdi_report.proofs.Common.{HaveNoneTogether, Together, Unsettled, open_of, EvaluatesSome, faults_of, has_faults, faults_together}
 use Rattle.cdi_report.proofs.Common.{looks_at_all, flat_map, map, AreDistinct, AskForRest, told-all, faults_stand_once}
 use Rattle.std.proofs.Common.{◌≢◌, AllPairs}
 use Rattle.base_options.proofs.Results.{OnErr-from}
@@ -54,7 +54,7 @@ find-requires-clause-decls g c =
 pub find-requires-clause-apart : goal.find-requires-clause-apart
 find-requires-clause-apart g c =
     let u = c.args.self.now in
-    subst (λ l. HaveNoneTogether l (closed_of u l) u.anew) (sym c.in_ok-evaluate_rest.ensures.list) c.requires.settled.apart
+    subst (λ l. HaveNoneTogether l (unchanged_of u l) u.anew) (sym c.in_ok-evaluate_rest.ensures.list) c.requires.settled.apart
 
 pub returns-in_err-found-clause-err : goal.returns-in_err-found-clause-err
 returns-in_err-found-clause-err g c =
@@ -97,11 +97,13 @@ returns-clause-settled g c =
     let old = g.V.View.kept c.args.view.now in
     let new = g.V.View.kept c.evaluate_rest.new.view in
     let book = g.B.Bodies.promises c.args.book.now in
-    let made : Unsettled = record { is_each = false; keys = c.in_ok-found.found.keys; anew = c.in_ok-found.found.together } in
+    let made : Unsettled = c.settle.new.self in
+    let after = g.V.View.list c.evaluate_rest.new.view in
     subst (λ l. AreSettled l new.knows book made) (sym c.in_ok-evaluate_rest.ensures.list)
     (settled-now ds old.knows book c.args.self.now c.requires.settled new.knows made
-    (all-knows ds old new c.requires.keeps c.in_ok-evaluate_rest.ensures.ok) refl
-    (λ k. c.in_ok-found.ensures.keys k
+    (all-knows ds old new c.requires.keeps c.in_ok-evaluate_rest.ensures.ok) c.settle.ensures.changed
+    (λ k. ap (λ s. contains same_key s k) c.settle.ensures.faulty ∙ c.in_ok-found.ensures.keys k
     ∙ ap (λ l. list_any (λ d. same_key (key_of d) k && has_faults l book d) (open_of c.args.self.now l))
     c.in_ok-evaluate_rest.ensures.list)
-    (subst (λ l. HaveNoneTogether l l made.anew) c.in_ok-evaluate_rest.ensures.list c.in_ok-found.ensures.together))
+    (subst (λ l. HaveNoneTogether l l made.anew) c.in_ok-evaluate_rest.ensures.list
+    (subst (λ (a : Together). HaveNoneTogether after after a) (sym c.settle.ensures.anew) c.in_ok-found.ensures.together)))

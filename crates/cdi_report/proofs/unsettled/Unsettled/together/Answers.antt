@@ -1,17 +1,17 @@
 use Rattle.cdi_report.proofs.Common.{sym, ap, ◌∙◌, false≢true, list_all, is_chainless, is_nameless, is_needless}
 use Rattle.std.proofs.lemmas.Bool.{not-false}
-use Rattle.cdi_report.proofs.SettledLemmas.{open-found}
+use Rattle.cdi_report.proofs.SettledLemmas.{changed-found}
 use Rattle.cdi_report.proofs.TogetherLemmas.{whole-chains, whole-circles, whole-names}
 use Rattle.cdi_report.proofs.unsettled.Unsettled.together.Goals.{then-self, else-self, then-self-2, else-self-2+in_ok-circles}
 use Rattle.cdi_report.proofs.unsettled.Unsettled.together.Goals as goal
 
 pub are_nameless-requires : goal.are_nameless-requires
 are_nameless-requires g c =
-    open-found (λ d. d.now) c.args.decls.now (g.V.View.list c.args.view.now) c.args.self.now c.requires.distinct c.requires.decls
+    changed-found (λ d. d.now) c.args.decls.now (g.V.View.list c.args.view.now) c.args.self.now c.requires.distinct c.requires.decls
 
 pub are_needless-requires-clause-found : goal.are_needless-requires-clause-found
 are_needless-requires-clause-found g c =
-    open-found (λ d. d.now) c.args.decls.now (g.V.View.list c.args.view.now) c.args.self.now c.requires.distinct c.requires.decls
+    changed-found (λ d. d.now) c.args.decls.now (g.V.View.list c.args.view.now) c.args.self.now c.requires.distinct c.requires.decls
 
 pub returns-then-self-3 : goal.returns-then-self-3
 returns-then-self-3 g c = record {
