@@ -8,7 +8,7 @@ use crate::batch::BatchError;
 use cdi_faults::Fault;
 use cdi_index::Counts;
 use cdi_model::{Error, Kind, Name, Outcome, Refusal, Seq};
-use cdi_observe::ObserverId;
+use cdi_observe::{ObserverId, Shared};
 use cdi_resolve::Choice;
 use std::alloc::AllocError;
 
@@ -38,9 +38,9 @@ pub enum Answer {
     /// The bean that was asked for, or why there is none.
     Chosen(Choice),
     /// The names of the interceptors around a place, in order.
-    Intercepted(Seq<Name>),
+    Intercepted(Shared<Name>),
     /// The observer methods that are notified of an event, in order.
-    Observed(Seq<ObserverId>),
+    Observed(Shared<ObserverId>),
     /// The faults of the deployment, in their order.
     Reported(Seq<Fault>),
     /// How many records were computed.
@@ -139,7 +139,7 @@ pub(crate) fn answer_of_choice(called: Result<Choice, AllocError>) -> Result<Ans
 }
 
 /// The answer of a question for interceptors.
-pub(crate) fn answer_of_chain(called: Result<Seq<Name>, Error>) -> Result<Answer, AllocError>
+pub(crate) fn answer_of_chain(called: Result<Shared<Name>, Error>) -> Result<Answer, AllocError>
     ensures { result ≡ chain_answer called }
 {
     match called {
@@ -150,7 +150,7 @@ pub(crate) fn answer_of_chain(called: Result<Seq<Name>, Error>) -> Result<Answer
 
 /// The answer of a question for observer methods.
 pub(crate) fn answer_of_observers(
-    called: Result<Seq<ObserverId>, AllocError>,
+    called: Result<Shared<ObserverId>, AllocError>,
 ) -> Result<Answer, AllocError>
     ensures { result ≡ observers_answer called }
 {

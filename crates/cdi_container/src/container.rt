@@ -42,9 +42,8 @@ use cdi_legal::{Entries, Run};
 use cdi_lines::{Command, Edit};
 use cdi_model::{
     BeanPlace, Decl, Decls, Edit as Change, Error, Iter as DeclIter, Kind, Name, Quals, Refusal,
-    Seq,
 };
-use cdi_observe::ObserverId;
+use cdi_observe::{ObserverId, Shared};
 use cdi_resolve::Choice;
 use cdi_staging::Names;
 use cdi_text::read_decl;
@@ -361,7 +360,7 @@ impl<B: Bodies> Container<B> {
     /// no such bean is declared, and with `NoMethod` where it has no such place, as of a static producer method. An answer that
     /// is known is copied. Else it is computed, counted, and known from then on: it takes memory for the bindings there, for the
     /// interceptors that have one of them, for the names, and to keep these.
-    pub fn chain(&mut self, bean: Name, place: &BeanPlace) -> Result<Seq<Name>, Error>
+    pub fn chain(&mut self, bean: Name, place: &BeanPlace) -> Result<Shared<Name>, Error>
         ensures answer { Answers result (chain_of self.old.decls bean place.now) }
         ensures ok { OnOk result (self.new ≡ untold (asked self.old (ChainKey bean place.now ∷ []))) }
         ensures err { IfErr result (λ error. self.new ≡ left_by error self.old) }
@@ -385,7 +384,7 @@ impl<B: Bodies> Container<B> {
         &mut self,
         event_type: Name,
         quals: &Quals,
-    ) -> Result<Seq<ObserverId>, AllocError>
+    ) -> Result<Shared<ObserverId>, AllocError>
         ensures observers { IfOk result (λ ids. ids ≡ notified self.old.decls (beans self.old.decls) event_type quals.now) }
         ensures ok { OnOk result (self.new ≡ untold (asked self.old (EventKey event_type quals.now ∷ []))) }
         ensures err { OnErr result (self.new ≡ self.old) }

@@ -43,7 +43,7 @@ use cdi_live::Live;
 use cdi_model::{
     BeanPlace, Decl, Decls, Edit as Change, Error, Iter as DeclIter, Name, Quals, Refusal, Seq,
 };
-use cdi_observe::{ObserverId, evaluate};
+use cdi_observe::{ObserverId, Shared, evaluate};
 use cdi_report::Unsettled;
 use cdi_resolve::Choice;
 use cdi_run::Player;
@@ -299,7 +299,7 @@ impl<B: Bodies> Deployment<B> {
         alloc: Global,
         event_type: Name,
         quals: &Quals,
-    ) -> Result<Seq<ObserverId>, AllocError>
+    ) -> Result<Shared<ObserverId>, AllocError>
         ensures observers { IfOk result (λ ids. ids ≡ notified self.old.decls (beans self.old.decls) event_type quals.now) }
         ensures decls { self.new.decls ≡ self.old.decls }
         ensures book { self.new.book ≡ self.old.book }
@@ -317,7 +317,7 @@ impl<B: Bodies> Deployment<B> {
         alloc: Global,
         bean: Name,
         place: &BeanPlace,
-    ) -> Result<Seq<Name>, Error>
+    ) -> Result<Shared<Name>, Error>
         ensures chain { Answers result (chain_of self.old.decls bean place.now) }
         ensures wired { self.new.is_wired ≡ self.old.is_wired }
         ensures asked { OnOk result (IsAsked (ChainKey bean place.now ∷ []) self.old self.new) }
@@ -508,7 +508,7 @@ impl<B: Bodies> Deployment<B> {
 
     /// The observer methods that are notified of an event where they are known. Nothing is computed for them then. It takes
     /// no memory.
-    fn kept_observers(&self, event_type: &Name, quals: &Quals) -> Option<&Seq<ObserverId>>
+    fn kept_observers(&self, event_type: &Name, quals: &Quals) -> Option<&Shared<ObserverId>>
         ensures observers { IfSome (option_copied result) (λ ids. ids
             ≡ notified self.now.decls (beans self.now.decls) event_type.now quals.now) }
         ensures asked { is_some result ≡ true → IsAsked (EventKey event_type.now quals.now ∷ []) self.now self.now }

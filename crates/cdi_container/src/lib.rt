@@ -33,7 +33,7 @@ pub use cdi_model::{
     ProducerDecl, Qual, QualifierDecl, Quals, Refusal, Scope, Seq, StereotypeDecl, TypeDecl,
     UseKind, Val,
 };
-pub use cdi_observe::ObserverId;
+pub use cdi_observe::{ObserverId, Shared};
 pub use cdi_resolve::Choice;
 pub use cdi_scene::{Notified, Place, Seat};
 pub use cdi_text::{Explanation, Path, Step, explain_refusal, read_decl, read_qualifier};

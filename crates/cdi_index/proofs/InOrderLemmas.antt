@@ -1,7 +1,7 @@
 -- What is found under words, in the order of its numbers, is of the declarations that have one of the words, in their order.
 use Rattle.cdi_index.proofs.Common.{◌≡◌, ℕ, Bool, true, false, ◌||◌, List, [], ◌∷◌, ◌++◌, map, flat_map, filter, Option, Some, None, option_map}
 use Rattle.cdi_index.proofs.Common.{refl, sym, ap, ◌∙◌, suc, zero, ◌<◌, length, slice_get, cond, inl, inr, ◌⊎◌, arith, subst, false≢true}
-use Rattle.cdi_index.proofs.Common.{nat_eq, eqb-true, nat_eq-refl, list_any, AllByRecursion, Decl, DeclKey, key_of, AreDistinct, Word, Listing}
+use Rattle.cdi_index.proofs.Common.{same-bool, nat_eq, eqb-true, nat_eq-refl, list_any, AllByRecursion, Decl, DeclKey, key_of, AreDistinct, Word, Listing}
 use Rattle.cdi_index.proofs.Common.{under, Kept, Made, made_in, made_of, Stored, IsExact, IsSound, words_have, words_by, has_one, entries}
 use Rattle.cdi_index.proofs.Common.{beans_under, Effective, lent, AreReplaced, position, position-there, is_of, option_map_or, kind_of, name_of_decl}
 use Rattle.cdi_index.proofs.Common.{find_decl, option_to_list, is_listed, made_of_bean, made_of_interceptor, keys_have, classes_have, or_right}
@@ -26,7 +26,7 @@ use Rattle.cdi_index.proofs.SlotLemmas.{has-place, lent-there}
 use Rattle.cdi_index.proofs.UnderLemmas.{key-found, made-at, of-decl}
 use Rattle.cdi_index.proofs.ChangeLemmas.{one-stored}
 use Rattle.cdi_index.specs.{Numbers.AreNumbered, Slots.AreAtSlots, Slots.entry_kept, declared.shelf.Entry.Entry}
-use Rattle.cdi_index.specs.InOrder.{decl_kept, kept_under, kept_with, numbers_of, records_kept, with_word, AreInOrder}
+use Rattle.cdi_index.specs.InOrder.{decl_kept, is_word_of, kept_under, kept_with, numbers_of, records_kept, with_word, AreInOrder}
 
 -- ---- members of lists
 
@@ -486,6 +486,44 @@ module _ (ds : List Decl) (bound : ℕ) (m : DeclKey → Option Stored) (kept : 
       (or_right (keys_have is.entry.made.reads word.0) (classes_have is.entry.made.replaces word.0 || words_have is.entry.made.words word.0)
       (or_right (classes_have is.entry.made.replaces word.0) (words_have is.entry.made.words word.0) is.has)))
       is.here is.has (one-stored is.slot a.slot is.entry e (sym is.stored ∙ a.stored)).1
+
+  of-one : (w : Word) (s : ℕ) (o : Option Kept) → kept s ≡ o → is_word_of w o ≡ true
+      → (e : Kept) × (kept s ≡ Some e) × (words_have e.made.words w ≡ true)
+  of-one w s None here has = absurd (false≢true has)
+  of-one w s (Some e) here has = (e, here, has)
+
+  at-listed : (w : Word) (s t : ℕ) (e : Kept) → nat_eq s t ≡ true → kept s ≡ Some e → words_have e.made.words w ≡ true
+      → is_word_of w (kept t) ≡ true
+  at-listed w s t e same here has = ap (λ i. is_word_of w (kept i)) (sym (eqb-true s t same)) ∙ ap (is_word_of w) here ∙ has
+
+  -- what is listed has one of the words where a declaration has one
+  pub any-found : list_any (λ w. list_any (λ s. is_word_of w (kept s)) (under listings w)) words ≡ list_any (has_one ds words) ds
+  any-found = same-bool _ _ only all
+    where
+      only : list_any (λ w. list_any (λ s. is_word_of w (kept s)) (under listings w)) words ≡ true → list_any (has_one ds words) ds ≡ true
+      only some =
+          let word = any-has (λ w. list_any (λ s. is_word_of w (kept s)) (under listings w)) words some in
+          let w = word.0 in
+          let at = any-has (λ s. is_word_of w (kept s)) (under listings w) word.2 in
+          let it = of-one w at.0 (kept at.0) refl at.2 in
+          let a = among-from it.0 (found-among it.0
+          (flat-has (λ v. flat_map (kept_with kept v) (under listings v)) words w it.0 word.1
+          (flat-has (kept_with kept w) (under listings w) at.0 it.0 at.1 (has-word w it.0 (kept at.0) it.1 it.2)))) in
+          any_passes_from_place (has_one ds words) ds a.place a.decl a.at a.passes
+
+      all : list_any (has_one ds words) ds ≡ true → list_any (λ w. list_any (λ s. is_word_of w (kept s)) (under listings w)) words ≡ true
+      all some =
+          let d = any-has (has_one ds words) ds some in
+          let word = any-has (words_have (words_by ds d.0)) words d.2 in
+          let w = word.0 in
+          let is = is-of d.1.0 d.0 w d.1.1 word.2 in
+          let listed = any-has (nat_eq is.slot) (under listings w)
+          (sound w (key_of d.0) is.slot is.entry is.stored
+          (or_right (keys_have is.entry.made.reads w) (classes_have is.entry.made.replaces w || words_have is.entry.made.words w)
+          (or_right (classes_have is.entry.made.replaces w) (words_have is.entry.made.words w) is.has))) in
+          any_passes_from_place (λ v. list_any (λ s. is_word_of v (kept s)) (under listings v)) words word.1.0 w word.1.1
+          (any_passes_from_place (λ s. is_word_of w (kept s)) (under listings w) listed.1.0 listed.0 listed.1.1
+          (at-listed w is.slot listed.0 is.entry listed.2 is.here is.has))
 
   module _ (ordered : List Kept) (are : AreInOrder (kept_under kept listings words) ordered) where
     pub same-found : ordered ≡ kept_in_order

@@ -1,5 +1,5 @@
 -- What is found under words, in the order of its numbers.
-use Rattle.std.specs.Prelude.{◌≡◌, ℕ, nat_eq, true, List, [], ◌∷◌, flat_map, map, filter, Option, Some, None, if◌then◌else◌}
+use Rattle.std.specs.Prelude.{◌≡◌, ℕ, nat_eq, Bool, true, false, List, [], ◌∷◌, flat_map, map, filter, Option, Some, None, if◌then◌else◌}
 use Rattle.std.specs.List.{Any, Contains}
 use Rattle.std.specs.List.Sorted.{IsStrictlySortedBy}
 use Rattle.std.specs.Ordering.{nat_cmp}
@@ -15,6 +15,11 @@ use Rattle.cdi_index.specs.declared.under.Sought.{Sought}
 use Rattle.cdi_index.specs.Made.{words_have}
 use Rattle.cdi_index.specs.Replaced.{lent}
 use Rattle.cdi_index.specs.Under.{is_sought}
+
+-- what is kept has the word
+abbrev pub is_word_of : Word → Option Kept → Bool
+is_word_of word None = false
+is_word_of word (Some e) = words_have e.made.words word
 
 -- what is kept, where it has the word
 abbrev pub with_word : Word → Option Kept → List Kept

@@ -34,6 +34,10 @@ abbrev pub observes_one : List (List ℕ) → Decl → Bool
 observes_one types (decls.Bean bean) = list_any (λ o. has types o.event_type) bean.observers
 observes_one types other = false
 
+-- an observer method observes the type
+abbrev pub is_observed : List Decl → List ℕ → Bool
+is_observed ds t = list_any (observes_one (t ∷ [])) ds
+
 -- the bindings of the class of a bean, none where no such bean is declared
 abbrev pub bindings_in : List Decl → List ℕ → List Qual
 bindings_in ds class = option_map_or (class_bindings ds) (find_bean class ds) []

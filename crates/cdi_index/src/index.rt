@@ -12,7 +12,7 @@ ghost use Rattle.cdi_index.specs.State.{committed, drafted_from, empty, staged_b
 ghost use Rattle.cdi_index.specs.Asked.{is_asked};
 ghost use Rattle.cdi_index.specs.Candidates.{AreFirst};
 ghost use Rattle.cdi_index.specs.Told.{Tells};
-ghost use Rattle.cdi_index.specs.Under.{beans_under, bindings_in, first_bindings, has_name, has_one, is_sought, observes_one};
+ghost use Rattle.cdi_index.specs.Under.{beans_under, bindings_in, first_bindings, has_name, has_one, is_observed, is_sought, observes_one};
 
 use crate::affected::{copy_keys, readers_of};
 use crate::asked::{Asked, is_asked_at};
@@ -24,7 +24,9 @@ use crate::next_index::NextIndex;
 use crate::prepare::{Next, prepare};
 use crate::replaced::install_turns;
 use crate::shelf::Shelf;
-use crate::under::{Sought, decls_under, only_slot, sought_at_slot, sought_under, words_observed};
+use crate::under::{
+    Sought, decls_under, is_word_of_one, only_slot, sought_at_slot, sought_under, words_observed,
+};
 use cdi_effective::Effective;
 use cdi_model::{Decl, DeclKey, Decls, Kind, Name, Qual};
 use cdi_postings::{Postings, Reason, Word};
@@ -285,6 +287,18 @@ impl Index {
     {
         let words = words_observed(alloc, types)?;
         self.sought_under(alloc, words.as_slice(), Sought::Each)
+    }
+
+    /// Whether an observer method observes a type. It takes no memory, and looks at the declarations that are listed for the type
+    /// until one does.
+    pub fn is_observed(&self, event_type: &Name) -> bool
+        ensures { result ≡ is_observed self.now.decls event_type.now }
+    {
+        let word = Word {
+            reason: Reason::Observes,
+            name: *event_type,
+        };
+        is_word_of_one(&self.shelf, self.postings.under(word), &word)
     }
 
     /// A draft without an edit. It takes memory as `Decls::copy` does.

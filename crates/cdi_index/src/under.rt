@@ -1,5 +1,6 @@
 //! The declarations that are under words, and the beans that are found by these.
 ghost use Rattle.std.specs.Prelude.{◌≡◌, ◌<◌, ◌||◌, ◌++◌, ℕ, List, Some, filter, flat_map, length, map, option_map, IfOk, IfSome, OnOk};
+ghost use Rattle.std.specs.List.{list_any};
 ghost use Rattle.std.specs.Option.{option_to_list};
 ghost use Rattle.cdi_model.specs.DeclList.{find_decl};
 ghost use Rattle.cdi_index.specs.Made.{words_have};
@@ -9,7 +10,7 @@ ghost use Rattle.cdi_postings.specs.Listing.{under};
 ghost use Rattle.cdi_postings.specs.Words.{word_at};
 ghost use Rattle.cdi_postings.specs.declared.word.Word.{Word as AnyWord};
 ghost use Rattle.cdi_postings.specs.declared.word.Reason.TheVariants as reasons;
-ghost use Rattle.cdi_index.specs.InOrder.{kept_under, kept_with, records_kept, with_word, AreInOrder, AreSought, AreUnder};
+ghost use Rattle.cdi_index.specs.InOrder.{is_word_of, kept_under, kept_with, records_kept, with_word, AreInOrder, AreSought, AreUnder};
 ghost use Rattle.cdi_index.specs.Under.{has_name, is_sought};
 
 use crate::index::own_records;
@@ -93,6 +94,28 @@ pub(crate) fn only_slot(postings: &Postings, words: &[Word]) -> Option<(Word, u6
         }
     }
     only
+}
+
+/// Whether what is kept has a word.
+fn is_word_of(kept: Option<Entry<'_>>, word: &Word) -> bool
+    ensures { result ≡ is_word_of word.now (option_map entry_kept kept.entry) }
+{
+    match kept {
+        Some(entry) => has_word(entry.made, word),
+        None => false,
+    }
+}
+
+/// Whether what is kept at one of some slots has a word.
+pub(crate) fn is_word_of_one<S: Slots>(shelved: &S, slots: &[u64], word: &Word) -> bool
+    ensures { result ≡ list_any (λ slot. is_word_of word.now (S.kept shelved.now slot)) slots.now }
+{
+    for slot in slots {
+        if is_word_of(shelved.at(*slot), word) {
+            return true;
+        }
+    }
+    false
 }
 
 /// Appends what is kept, where it has a word.

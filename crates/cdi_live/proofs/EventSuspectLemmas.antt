@@ -1,17 +1,17 @@
 -- Events of types that are not suspect see the same after edits.
 use Rattle.cdi_live.proofs.Common.{◌≡◌, Bool, true, false, cond, not, ◌&&◌, List, [], ◌∷◌, map, filter, refl, sym, ap, ◌∙◌, inl, inr}
 use Rattle.cdi_live.proofs.Common.{list_any, bytes_eq, and_from, and_parts, false≢true, or_cases, or_left, or_right, Decl, Qual, same_text}
-use Rattle.cdi_live.proofs.Common.{ℕ, ◌||◌, flat_map, Option, Some, None, option_map_or, list_any-append, Edit, DeclKey, bytes_eq-turned}
-use Rattle.cdi_live.proofs.Common.{key_of, kind_of, name_of_decl, find_decl, AreDistinct, edited_all, edited_keys, is_among, mentions}
+use Rattle.cdi_live.proofs.Common.{ℕ, ◌||◌, flat_map, Option, Some, None, option_map_or, Edit, DeclKey, bytes_eq-turned}
+use Rattle.cdi_live.proofs.Common.{key_of, find_decl, AreDistinct, edited_all, edited_keys, is_among, mentions}
 use Rattle.cdi_live.proofs.Common.{Mention, EventOf, PointOf, edits_keep_decl, key_exact, asks_for, asks_in, IsPresent, all_present}
-use Rattle.cdi_live.proofs.Common.{found_any, witness, ◌++◌, unwrap_or, option_map, BeanDecl, ObserverDecl, has, own_records, Word}
+use Rattle.cdi_live.proofs.Common.{witness, ◌++◌, unwrap_or, option_map, BeanDecl, ObserverDecl, has, own_records, Word}
 use Rattle.cdi_live.proofs.Common.{same_word, word_at, words_have, words_named, words_named_in, words_of_observer, words_of_record}
 use Rattle.cdi_live.proofs.Common.{words_of_uses, words_by, among-named, Tells, is_touched, or_parts, key_at, Avoid, Chain, as_bean}
-use Rattle.cdi_live.proofs.Common.{find_bean, made_of, reads, reads_in, has_one, touched_where_seen_differs, each_all, holds, slice_get}
+use Rattle.cdi_live.proofs.Common.{find_bean, made_of, reads, reads_in, touched_where_seen_differs, each_all, holds}
 use Rattle.cdi_live.proofs.Common.{arith, beans, EventKey, types_of, sorted_by, Observer, declared_by, observers}
 use Rattle.cdi_live.proofs.Common.{observes, observing, same_quals, same_quals-decides, is_suspect, records, records_declared, records_in}
 use Rattle.cdi_live.proofs.Common.{same_word_equiv, made_of_type, words-of-asker, event_sees, ByEvent, event_types}
-use Rattle.cdi_live.proofs.Common.{fired_in, fired_types, may_have, observed_by_key, words_edited, same-bool, words-append}
+use Rattle.cdi_live.proofs.Common.{fired_in, fired_types, may_have, observed_by_key, same-bool, words-append}
 use Rattle.cdi_live.proofs.Common.{same_key}
 use Rattle.std.proofs.Common.{ℤ}
 use Rattle.cdi_model.proofs.{EditLemmas.edits_keep_others, GivingLemmas.edits_keep_given}
@@ -31,7 +31,7 @@ use Rattle.cdi_seen.specs.Gives.{is_before_observer, observer_given, ranked_obse
 use Rattle.cdi_seen.specs.{Rests.use_reads, Words.names_under, Words.types_observed}
 use Rattle.cdi_seen.proofs.{EventLemmas.event_by_words, EventLemmas.observers_by_declaration, EventLemmas.observers_of, UseLemmas.read_same}
 use Rattle.cdi_live.proofs.ListedLemmas.{holds-append}
-use Rattle.cdi_live.proofs.UserLemmas.{IsUsed, used, user-has, word}
+use Rattle.cdi_live.proofs.UserLemmas.{used, user-has, word}
 use Rattle.cdi_live.specs.{EventSuspects.concerned_types, EventSuspects.is_fired, EventSuspects.may_have_one, EventSuspects.observed_of}
 use Rattle.cdi_live.specs.Users.{users_of_edited}
 

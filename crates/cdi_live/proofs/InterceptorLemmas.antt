@@ -1,10 +1,10 @@
 -- The interceptors that a chain sees are found by the words of its bindings.
 use Rattle.cdi_live.proofs.Common.{◌≡◌, Bool, true, false, cond, ◌&&◌, List, [], ◌∷◌, filter, is_some, refl, sym, ap, ◌∙◌}
 use Rattle.cdi_live.proofs.Common.{list_any, false≢true, Decl, InterceptorDecl, BeanPlace, Qual, bytes_eq-turned, uses_one, in_order}
-use Rattle.cdi_live.proofs.Common.{part_for, is_seen, shares_type, ℕ, ◌||◌, flat_map, Some}
+use Rattle.cdi_live.proofs.Common.{part_for, is_seen, shares_type, ℕ, ◌||◌, flat_map}
 use Rattle.cdi_live.proofs.Common.{◌++◌, option_to_list, Word, same_word, word_at, words_have}
-use Rattle.cdi_live.proofs.Common.{or_from, words_named, or_left, or_parts, is_enabled, has_one, slice_get}
-use Rattle.cdi_live.proofs.Common.{arith, filter-append}
+use Rattle.cdi_live.proofs.Common.{or_from, words_named, or_left, or_parts, is_enabled, has_one}
+use Rattle.cdi_live.proofs.Common.{filter-append}
 use Rattle.cdi_live.proofs.Common.{sorted_by, same_word_equiv, words_bound, words-append}
 use Rattle.std.proofs.Math.Bool.{and-false}
 use Rattle.base_lists.proofs.Any.{any-or}

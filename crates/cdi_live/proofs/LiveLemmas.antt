@@ -16,6 +16,8 @@ use Rattle.cdi_observe.specs.{Kept.Kept, Observers.notified}
 use Rattle.cdi_observe.proofs.SeenLemmas.{notified_rest_on_seen}
 use Rattle.cdi_live.proofs.LiveChainLemmas.{known-chain-with, places-after, places-with, right-chains-after, right-chains-with}
 use Rattle.cdi_live.proofs.PartLemmas.{nothing-more}
+use Rattle.std.specs.List.{AllByRecursion}
+use Rattle.cdi_live.specs.{EventLists.AreRightLists, declared.event_lists.EventLists.EventLists}
 use Rattle.cdi_live.specs.State.{AreKept, AreRight, HasDefault, IsDefaultOrNone, IsGoing, IsLive, MayGo}
 use Rattle.cdi_live.specs.{Kept.AreGoing, Kept.Forgets, declared.memos.Going.Going}
 
@@ -158,10 +160,15 @@ default-after us m new gone forgets (inl is) = inl is
 default-after us m new gone forgets (inr nothing) =
     inr (nothing.0, λ t vs. forgets t vs ∙ none-either (gone t vs) (answer same_quals m t vs) (nothing.1 t vs))
 
-pub live-after : (index after : IndexState) (memos new : Memos) (by_default : List Qual) (before now : Option Going) (going : Going)
-    → IsLive index memos by_default before → before ≡ Some going → now ≡ None → after ≡ index_committed index → Forgets memos going new
-    → IsLive after new by_default now
-live-after index after memos new by_default before now going live was none is forgets =
+-- where none are kept all are right
+pub no-lists : (ds : List Decl) (lists : EventLists) → lists.lists.items ≡ [] → AreRightLists ds lists
+no-lists ds lists none = subst (AllByRecursion _) (sym none) tt
+
+pub live-after : (index after : IndexState) (memos new : Memos) (lists none_yet : EventLists) (by_default : List Qual)
+    (before now : Option Going) (going : Going)
+    → none_yet.lists.items ≡ [] → IsLive index memos lists by_default before → before ≡ Some going → now ≡ None → after ≡ index_committed index → Forgets memos going new
+    → IsLive after new none_yet by_default now
+live-after index after memos new lists none_yet by_default before now going empty live was none is forgets =
     let staged : IsGoing index memos going = subst (MayGo index memos) was live.staged in
     let decls : after.decls ≡ staged.next.decls =
     ap (λ (s : IndexState). s.decls) is ∙ ap (λ o. (committed_to index o).decls) staged.staged in
@@ -169,6 +176,7 @@ live-after index after memos new by_default before now going live was none is fo
       default = default-after by_default memos.choices new.choices (is_gone going.choices.items) forgets.choices live.default;
       kept = subst (λ d. AreKept d new) (sym decls)
           (kept-after-commit index.decls staged.next.decls memos new going staged.are forgets live.kept);
+      shared = no-lists after.decls none_yet empty;
       staged = subst (MayGo after new) (sym none) tt;
     }
 

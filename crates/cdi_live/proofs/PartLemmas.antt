@@ -1,6 +1,6 @@
 -- The parts of a name, one after another.
-use Rattle.cdi_live.proofs.Common.{◌≡◌, Bool, false, ◌&&◌, List, [], ◌∷◌, length, is_some, refl, sym, ap, ◌∙◌, list_any, false≢true, ℕ}
-use Rattle.cdi_live.proofs.Common.{◌||◌, Option, Some, None, zero, suc, ◌+◌, slice_get, arith, option_copied, ◌<◌, take}
+use Rattle.cdi_live.proofs.Common.{◌≡◌, Bool, false, ◌&&◌, List, [], ◌∷◌, is_some, refl, sym, ap, ◌∙◌, list_any, false≢true, ℕ}
+use Rattle.cdi_live.proofs.Common.{◌||◌, Option, Some, None, zero, suc, ◌+◌, slice_get, arith, option_copied, take}
 use Rattle.std.specs.Borrow.{Bor}
 
 -- one part more

@@ -1,12 +1,12 @@
 -- Choices for types that are not suspect see the same after edits.
 use Rattle.cdi_live.proofs.Common.{◌≡◌, Bool, true, false, cond, ◌&&◌, List, [], ◌∷◌, map, filter, refl, sym, ap, ◌∙◌, inl, inr, list_all}
 use Rattle.cdi_live.proofs.Common.{list_any, bytes_eq, and_from, and_parts, false≢true, or_cases, or_left, or_right, Decl, Qual, ℕ, ◌||◌}
-use Rattle.cdi_live.proofs.Common.{flat_map, list_any-append, Edit, DeclKey, key_of, kind_of, name_of_decl, bytes_eq-turned, AreDistinct}
+use Rattle.cdi_live.proofs.Common.{flat_map, list_any-append, Edit, DeclKey, key_of, bytes_eq-turned, AreDistinct}
 use Rattle.cdi_live.proofs.Common.{edited_all, edited_keys, is_among, mentions, Mention, PointOf, TypeIn, edits_keep_decl, key_exact}
-use Rattle.cdi_live.proofs.Common.{asks_for, asks_in, IsPresent, all_present, found_any, witness, ◌++◌, option_to_list, BeanDecl, has}
+use Rattle.cdi_live.proofs.Common.{asks_for, asks_in, IsPresent, all_present, witness, ◌++◌, option_to_list, BeanDecl, has}
 use Rattle.cdi_live.proofs.Common.{own_records, Effective, Word, same_word, word_at, words_have, words_named, words_named_in}
 use Rattle.cdi_live.proofs.Common.{words_as_alternative, words_of_bindings, words_of_observer, words_of_record, words_of_uses, words_by, among-named, Tells}
-use Rattle.cdi_live.proofs.Common.{or_parts, key_at, Avoid, as_bean, has_one, each_all, holds, entries, same_quals, same_quals-decides}
+use Rattle.cdi_live.proofs.Common.{or_parts, key_at, Avoid, as_bean, each_all, holds, same_quals, same_quals-decides}
 use Rattle.cdi_live.proofs.Common.{records, records_declared, records_in, same_word_equiv, words-of-asker, required, are_alike, suspects}
 use Rattle.cdi_live.proofs.Common.{offers, see_same_beans, asked_in, asked_types, concerned, types_of_key}
 use Rattle.cdi_live.proofs.Common.{types_of_records, words-append, same_key}

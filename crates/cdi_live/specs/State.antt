@@ -19,7 +19,9 @@ use Rattle.cdi_live.specs.ChainGone.{is_kept_chain, AreRightChains}
 use Rattle.cdi_live.specs.Dropped.{is_kept}
 use Rattle.cdi_live.specs.EventCompared.{Events}
 use Rattle.cdi_live.specs.EventDropped.{is_kept as is_kept_event}
+use Rattle.cdi_live.specs.EventLists.{AreRightLists}
 use Rattle.cdi_live.specs.Kept.{no_answers, AreAsked, AreGoing}
+use Rattle.cdi_live.specs.declared.event_lists.EventLists.{EventLists}
 use Rattle.cdi_live.specs.declared.memos.Going.{Going}
 use Rattle.cdi_live.specs.declared.memos.Memos.{Memos}
 
@@ -128,7 +130,8 @@ KeepsNone m = (t : List ℕ) (us : List Qual) → answer same_quals m t us ≡ N
 abbrev pub HasDefault : List Qual → Answers (List Qual) Choice → Type 0
 HasDefault us m = (us ≡ default_use ∷ []) ⊎ ((us ≡ []) × KeepsNone m)
 
-pub record IsLive (index : IndexState) (memos : Memos) (by_default : List Qual) (going : Option Going) : Type 0 where
+pub record IsLive (index : IndexState) (memos : Memos) (lists : EventLists) (by_default : List Qual) (going : Option Going) : Type 0 where
   pub default : HasDefault by_default memos.choices
   pub kept : AreKept index.decls memos
+  pub shared : AreRightLists index.decls lists
   pub staged : MayGo index memos going

@@ -18,7 +18,8 @@ use crate::interceptors::{seen_among, words_bound};
 use crate::sides::Sides;
 use cdi_intercept::{bindings_seen, has_place};
 use cdi_memo::Memo;
-use cdi_model::{BeanDecl, BeanPlace, Decl, Decls, Kind, Name, Qual, Seq};
+use cdi_model::{BeanDecl, BeanPlace, Decl, Decls, Kind, Name, Qual};
+use cdi_observe::Shared;
 use cdi_seen::{same_as_written, same_interceptors, same_types};
 use std::alloc::{AllocError, Global};
 
@@ -154,7 +155,7 @@ fn push_if_gone(
 fn push_gone_of_class(
     alloc: Global,
     sides: &Sides<'_>,
-    chains: &Memo<ChainPlace, Seq<Name>>,
+    chains: &Memo<ChainPlace, Shared<Name>>,
     class: &Name,
     gone: &mut Vec<GoneChain>,
 ) -> Result<(), AllocError>
@@ -179,7 +180,7 @@ fn push_gone_of_class(
 pub(crate) fn gone_of_classes(
     alloc: Global,
     sides: &Sides<'_>,
-    chains: &Memo<ChainPlace, Seq<Name>>,
+    chains: &Memo<ChainPlace, Shared<Name>>,
     classes: &[Name],
 ) -> Result<Vec<GoneChain>, AllocError>
     requires { IsBetween sides.now }

@@ -9,7 +9,8 @@ use crate::chain_place::ChainPlace;
 use crate::chain_suspects::chain_suspects;
 use crate::sides::Sides;
 use cdi_memo::Memo;
-use cdi_model::{Name, Seq};
+use cdi_model::Name;
+use cdi_observe::Shared;
 use std::alloc::{AllocError, Global};
 
 /// The kept chains that a draft takes away: those of which the place is there no more after it, and those that see
@@ -17,7 +18,7 @@ use std::alloc::{AllocError, Global};
 pub(crate) fn gone_chains_after(
     alloc: Global,
     sides: &Sides<'_>,
-    chains: &Memo<ChainPlace, Seq<Name>>,
+    chains: &Memo<ChainPlace, Shared<Name>>,
 ) -> Result<Vec<GoneChain>, AllocError>
     requires between { IsBetween sides.now }
     requires wanted { ArePlaces sides.now.index.now.decls chains.now }

@@ -22,6 +22,7 @@ use cdi_memo::Memo;
 use cdi_model::{
     BeanDecl, BeanPlace, Decl, Decls, Error, InterceptorDecl, Kind, Name, Qual, Refusal, Seq, Work,
 };
+use cdi_observe::Shared;
 use std::alloc::{AllocError, Global};
 
 /// The names of those of some interceptors that are around a place with some bindings.
@@ -31,17 +32,17 @@ fn names_among(
     interceptors: &[&InterceptorDecl],
     bindings: &[&Qual],
     place: &BeanPlace,
-) -> Result<Seq<Name>, AllocError>
+) -> Result<Shared<Name>, AllocError>
     ensures { IfOk result (λ names. names
         ≡ map (λ i. i.name) (filter (surrounds decls.now (uses_in bindings.now) place.now) (lent_in interceptors.now))) }
 {
-    let mut names = Seq::new(alloc);
+    let mut names = Vec::new(alloc);
     for interceptor in interceptors {
         if surrounds(decls, bindings, place, interceptor) {
             names.push(interceptor.name)?;
         }
     }
-    Ok(names)
+    Shared::from_vec(alloc, names)
 }
 
 /// The names of the interceptors around a place of a bean whose class has these bindings, in order. It looks at the
@@ -52,7 +53,7 @@ fn names_around(
     class: &[Qual],
     bean: &BeanDecl,
     place: &BeanPlace,
-) -> Result<Seq<Name>, AllocError>
+) -> Result<Shared<Name>, AllocError>
     ensures { IfOk result (λ names. names
         ≡ names_around index.now.decls (set_by index.now.decls class.now bean.now place.now) place.now) }
 {
@@ -65,7 +66,12 @@ fn names_around(
 
 /// The names of the interceptors around a place of the bean of a class, in order. It is refused with `UnknownName` where no
 /// such bean is declared, and with `NoMethod` where it has no such place.
-fn chain(alloc: Global, index: &Index, class: Name, place: &BeanPlace) -> Result<Seq<Name>, Error>
+fn chain(
+    alloc: Global,
+    index: &Index,
+    class: Name,
+    place: &BeanPlace,
+) -> Result<Shared<Name>, Error>
     ensures chain { Answers result (chain_of index.now.decls class place.now) }
     ensures there { OnOk result (is_place_of index.now.decls class place.now ≡ true) }
     ensures distinct { AreDistinct index.now.decls }
@@ -80,24 +86,15 @@ fn chain(alloc: Global, index: &Index, class: Name, place: &BeanPlace) -> Result
     Ok(names)
 }
 
-/// Copies of some names.
-pub(crate) fn copy_names(alloc: Global, names: &[Name]) -> Result<Seq<Name>, AllocError>
-    ensures { IfOk result (λ copy. copy ≡ names.now) }
-{
-    let mut copy = Vec::with_capacity(alloc, names.len())?;
-    copy.extend_from_slice(names)?;
-    Ok(Seq::from_vec(copy))
-}
-
 /// Computes the chain around a place, and keeps it. Without memory nothing is kept or counted.
 pub(crate) fn evaluate_chain(
     alloc: Global,
     index: &Index,
-    chains: &mut Memo<ChainPlace, Seq<Name>>,
+    chains: &mut Memo<ChainPlace, Shared<Name>>,
     class: Name,
     place: &BeanPlace,
     work: &mut Work,
-) -> Result<Seq<Name>, Error>
+) -> Result<Shared<Name>, Error>
     ensures chain { Answers result (chain_of index.now.decls class place.now) }
     ensures there { OnOk result (is_place_of index.now.decls class place.now ≡ true) }
     ensures distinct { AreDistinct index.now.decls }
@@ -108,14 +105,13 @@ pub(crate) fn evaluate_chain(
     ensures same { OnErr result (work.new ≡ work.old) }
 {
     let names = chain(alloc, index, class, place)?;
-    let copy = copy_names(alloc, names.as_slice())?;
-    chains.keep(class, ChainPlace::new(*place), copy)?;
+    chains.keep(class, ChainPlace::new(*place), names.share()?)?;
     work.add_one();
     Ok(names)
 }
 
 /// Keeps some chains no more. It takes no memory.
-pub(crate) fn forget_chains(chains: &mut Memo<ChainPlace, Seq<Name>>, mut gone: Vec<GoneChain>)
+pub(crate) fn forget_chains(chains: &mut Memo<ChainPlace, Shared<Name>>, mut gone: Vec<GoneChain>)
     ensures { (c : _) (p : _) → answer same_place chains.new c p
         ≡ (if is_gone_chain gone.items c p then None else answer same_place chains.old c p) }
 {

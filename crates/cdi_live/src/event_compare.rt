@@ -17,8 +17,8 @@ use crate::sides::Sides;
 use cdi_index::{Index, NextIndex};
 use cdi_match::closure;
 use cdi_memo::Memo;
-use cdi_model::{Name, Quals, Seq};
-use cdi_observe::{LentObserver, ObserverId, observers_in_order};
+use cdi_model::{Name, Quals};
+use cdi_observe::{LentObserver, ObserverId, Shared, observers_in_order};
 use cdi_seen::is_event_touched;
 use std::alloc::{AllocError, Global};
 
@@ -122,7 +122,7 @@ fn push_if_touched(
 fn push_touched_of_type(
     alloc: Global,
     sides: &Sides<'_>,
-    events: &Memo<Quals, Seq<ObserverId>>,
+    events: &Memo<Quals, Shared<ObserverId>>,
     event_type: &Name,
     gone: &mut Vec<Gone>,
 ) -> Result<(), AllocError>
@@ -146,7 +146,7 @@ fn push_touched_of_type(
 pub(crate) fn touched_of_types(
     alloc: Global,
     sides: &Sides<'_>,
-    events: &Memo<Quals, Seq<ObserverId>>,
+    events: &Memo<Quals, Shared<ObserverId>>,
     types: &[Name],
 ) -> Result<Vec<Gone>, AllocError>
     ensures { IfOk result (λ gone. (t : _) (us : _) → is_gone gone.items t us

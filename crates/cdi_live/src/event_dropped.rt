@@ -9,15 +9,15 @@ use crate::gone::{Gone, push_gone};
 use crate::sides::Sides;
 use cdi_index::{Asked, Question};
 use cdi_memo::Memo;
-use cdi_model::{Decl, DeclKey, EventDecl, Mention, Quals, Seq};
-use cdi_observe::ObserverId;
+use cdi_model::{Decl, DeclKey, EventDecl, Mention, Quals};
+use cdi_observe::{ObserverId, Shared};
 use std::alloc::AllocError;
 
 /// Of what is asked whether it is wanted after a draft.
 #[derive(Drop)]
 pub(crate) struct EventWants<'a> {
     pub(crate) sides: &'a Sides<'a>,
-    pub(crate) events: &'a Memo<Quals, Seq<ObserverId>>,
+    pub(crate) events: &'a Memo<Quals, Shared<ObserverId>>,
 }
 
 /// Appends an event that an edited declaration may fire, if it is kept and no body may fire it after the draft.

@@ -9,15 +9,15 @@ use crate::event_suspects::event_suspects;
 use crate::gone::Gone;
 use crate::sides::Sides;
 use cdi_memo::Memo;
-use cdi_model::{Quals, Seq};
-use cdi_observe::ObserverId;
+use cdi_model::Quals;
+use cdi_observe::{ObserverId, Shared};
 use std::alloc::{AllocError, Global};
 
 /// The kept events that a draft takes away: those that no body may fire after it, and those that see something else.
 pub(crate) fn gone_events_after(
     alloc: Global,
     sides: &Sides<'_>,
-    events: &Memo<Quals, Seq<ObserverId>>,
+    events: &Memo<Quals, Shared<ObserverId>>,
 ) -> Result<Vec<Gone>, AllocError>
     requires between { IsBetween sides.now }
     requires wanted { EventsAreWanted sides.now.index.now.decls events.now }

@@ -19,8 +19,8 @@ use crate::sides::Sides;
 use crate::users::users_of_edited;
 use cdi_index::Index;
 use cdi_memo::Memo;
-use cdi_model::{Decl, DeclKey, Decls, Kind, Mention, Name, ObserverDecl, Quals, Seq};
-use cdi_observe::ObserverId;
+use cdi_model::{Decl, DeclKey, Decls, Kind, Mention, Name, ObserverDecl, Quals};
+use cdi_observe::{ObserverId, Shared};
 use indexmap::IndexSet;
 use std::alloc::{AllocError, Global};
 
@@ -200,7 +200,7 @@ fn add_name(name: &Name, types: &mut IndexSet<Name>) -> Result<(), AllocError>
 
 /// Adds the types of the kept events.
 fn add_kept(
-    events: &Memo<Quals, Seq<ObserverId>>,
+    events: &Memo<Quals, Shared<ObserverId>>,
     types: &mut IndexSet<Name>,
 ) -> Result<(), AllocError>
     ensures { OnOk result ((t : _) → contains bytes_eq types.new t
@@ -225,7 +225,7 @@ fn is_object(name: &Name) -> bool
 fn add_having(
     alloc: Global,
     index: &Index,
-    events: &Memo<Quals, Seq<ObserverId>>,
+    events: &Memo<Quals, Shared<ObserverId>>,
     name: &Name,
     types: &mut IndexSet<Name>,
 ) -> Result<(), AllocError>
@@ -244,7 +244,7 @@ fn add_having(
 fn add_all_having(
     alloc: Global,
     index: &Index,
-    events: &Memo<Quals, Seq<ObserverId>>,
+    events: &Memo<Quals, Shared<ObserverId>>,
     names: &[Name],
     types: &mut IndexSet<Name>,
 ) -> Result<(), AllocError>
@@ -263,7 +263,7 @@ fn add_all_having(
 pub(crate) fn event_suspects(
     alloc: Global,
     sides: &Sides<'_>,
-    events: &Memo<Quals, Seq<ObserverId>>,
+    events: &Memo<Quals, Shared<ObserverId>>,
 ) -> Result<IndexSet<Name>, AllocError>
     ensures { IfOk result (λ types. (t : _) → contains bytes_eq types t
         ≡ is_suspect sides.now.index.now.decls sides.now.next.now sides.now.edited.now sides.now.affected.now (keys_of events.now) t) }

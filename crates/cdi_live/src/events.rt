@@ -8,35 +8,24 @@ ghost use Rattle.cdi_memo.specs.Answers.{answer};
 ghost use Rattle.cdi_observe.specs.Keys.{EventKey};
 ghost use Rattle.cdi_observe.specs.Observers.{notified};
 ghost use Rattle.cdi_observe.specs.Wanted.{is_wanted};
+ghost use Rattle.cdi_live.specs.EventLists.{AreRightLists};
 ghost use Rattle.cdi_live.specs.Gone.{is_gone};
 
+use crate::event_lists::EventLists;
 use crate::gone::Gone;
 use cdi_index::{Asked, Index, Question};
 use cdi_memo::Memo;
 use cdi_model::{Name, Quals, Seq, Work};
-use cdi_observe::ObserverId;
-use cdi_questions::observers;
+use cdi_observe::{ObserverId, Shared};
 use std::alloc::{AllocError, Global};
-
-/// The same observer methods again.
-pub(crate) fn copy_ids(alloc: Global, ids: &Seq<ObserverId>) -> Result<Seq<ObserverId>, AllocError>
-    ensures { IfOk result (λ copy. copy ≡ ids.now) }
-{
-    let mut copy = Seq::new(alloc);
-    for id in ids.as_slice() {
-        copy.push(*id)?;
-    }
-    Ok(copy)
-}
 
 /// Keeps the observer methods of an event, if a body may fire it.
 fn keep_event(
-    alloc: Global,
     index: &Index,
-    events: &mut Memo<Quals, Seq<ObserverId>>,
+    events: &mut Memo<Quals, Shared<ObserverId>>,
     event_type: Name,
     quals: &Quals,
-    ids: &Seq<ObserverId>,
+    ids: &Shared<ObserverId>,
 ) -> Result<(), AllocError>
     ensures ok { OnOk result ((t : _) (us : _) → answer same_quals events.new t us
         ≡ (if is_wanted index.now.decls (EventKey event_type quals.now) && (bytes_eq event_type t && same_quals quals.now us)
@@ -52,7 +41,7 @@ fn keep_event(
         return Ok(());
     }
     let part = quals.copy()?;
-    let answer = copy_ids(alloc, ids)?;
+    let answer = ids.share()?;
     events.keep(event_type, part, answer)?;
     Ok(())
 }
@@ -62,11 +51,14 @@ fn keep_event(
 pub(crate) fn evaluate_event(
     alloc: Global,
     index: &Index,
-    events: &mut Memo<Quals, Seq<ObserverId>>,
+    lists: &mut EventLists,
+    events: &mut Memo<Quals, Shared<ObserverId>>,
     event_type: Name,
     quals: &Quals,
     work: &mut Work,
-) -> Result<Seq<ObserverId>, AllocError>
+) -> Result<Shared<ObserverId>, AllocError>
+    requires { AreRightLists index.now.decls lists.old }
+    ensures lists { AreRightLists index.now.decls lists.new }
     ensures observers { IfOk result (λ ids. ids ≡ notified index.now.decls (beans index.now.decls) event_type quals.now) }
     ensures kept { IfOk result (λ ids. (t : _) (us : _) → answer same_quals events.new t us
         ≡ (if is_wanted index.now.decls (EventKey event_type quals.now) && (bytes_eq event_type t && same_quals quals.now us)
@@ -76,14 +68,14 @@ pub(crate) fn evaluate_event(
     ensures same { OnErr result (work.new ≡ work.old) }
 {
     let mut counted = *work;
-    let ids = observers(alloc, index, event_type, quals, &mut counted)?;
-    keep_event(alloc, index, events, event_type, quals, &ids)?;
+    let ids = lists.observers(alloc, index, event_type, quals, &mut counted)?;
+    keep_event(index, events, event_type, quals, &ids)?;
     *work = counted;
     Ok(ids)
 }
 
 /// Keeps the observer methods of some events no more. It takes no memory.
-pub(crate) fn forget_events(events: &mut Memo<Quals, Seq<ObserverId>>, mut gone: Vec<Gone>)
+pub(crate) fn forget_events(events: &mut Memo<Quals, Shared<ObserverId>>, mut gone: Vec<Gone>)
     ensures { (t : _) (us : _) → answer same_quals events.new t us
         ≡ (if is_gone gone.items t us then None else answer same_quals events.old t us) }
 {

@@ -12,6 +12,7 @@ mod compare;
 mod dropped;
 mod event_compare;
 mod event_dropped;
+mod event_lists;
 mod event_stage;
 mod event_suspects;
 mod events;

@@ -16,15 +16,16 @@ ghost use Rattle.cdi_live.specs.Known.{known_of, KnownAreWanted};
 ghost use Rattle.cdi_live.specs.State.{empty, kept_in, knows, staged_by, with_staged, Commits};
 
 use crate::chain_place::ChainPlace;
-use crate::chains::{copy_names, evaluate_chain};
+use crate::chains::evaluate_chain;
 use crate::choices::{evaluate, make_default, required_of};
-use crate::events::{copy_ids, evaluate_event};
+use crate::event_lists::EventLists;
+use crate::events::evaluate_event;
 use crate::memos::{Going, Memos};
 use crate::prepare::{KeptAnswers, Prepared, prepare};
 use cdi_effective::Effective;
 use cdi_index::{Counts, Draft, Index};
-use cdi_model::{BeanPlace, DeclKey, Decls, Error, Name, Quals, Seq, Work};
-use cdi_observe::ObserverId;
+use cdi_model::{BeanPlace, DeclKey, Decls, Error, Name, Quals, Work};
+use cdi_observe::{ObserverId, Shared};
 use cdi_questions::choose_name;
 use cdi_resolve::Choice;
 use std::alloc::{AllocError, Global};
@@ -35,6 +36,8 @@ pub struct Live {
     alloc: Global,
     index: Index,
     memos: Memos,
+    /// Lists of observer methods that events share, each right until the next commit.
+    lists: EventLists,
     /// `Default`, for which a point asks that names no qualifier: from the first choice or edit on.
     by_default: Quals,
     work: Work,
@@ -48,6 +51,7 @@ impl Drop for Live {
             alloc: _,
             index: _,
             memos: _,
+            lists: _,
             by_default: _,
             work: _,
             going: _,
@@ -62,7 +66,7 @@ impl Model for Live {
 
     ghost view = { λ l. seen l.index l.memos l.work l.going };
 
-    ghost invariant = { λ l. IsLive l.index l.memos l.by_default l.going };
+    ghost invariant = { λ l. IsLive l.index l.memos l.lists l.by_default l.going };
 }
 
 impl Live {
@@ -74,6 +78,7 @@ impl Live {
             alloc,
             index: Index::new(alloc),
             memos: Memos::new(alloc),
+            lists: EventLists::new(alloc),
             by_default: Quals::new(alloc),
             work: Work::new(),
             going: None,
@@ -188,7 +193,7 @@ impl Live {
 
     /// The names of the interceptors around a place of the bean of a class, in order (Interceptors 2.1, Interceptor
     /// Ordering), where they are kept. It takes no memory.
-    pub fn kept_chain(&self, class: &Name, place: &BeanPlace) -> Option<&Seq<Name>>
+    pub fn kept_chain(&self, class: &Name, place: &BeanPlace) -> Option<&Shared<Name>>
         ensures known { is_some result ≡ knows self.now (ChainKey class.now place.now) }
         ensures chain { IfSome (option_copied result) (λ names. chain_of self.now.decls class.now place.now ≡ Ok names) }
         ensures wanted { KnownAreWanted self.now }
@@ -206,7 +211,7 @@ impl Live {
         alloc: Global,
         class: Name,
         place: &BeanPlace,
-    ) -> Result<Seq<Name>, Error>
+    ) -> Result<Shared<Name>, Error>
         ensures chain { Answers result (chain_of self.old.decls class place.now) }
         ensures decls { self.new.decls ≡ self.old.decls }
         ensures counts { self.new.counts ≡ self.old.counts }
@@ -216,8 +221,7 @@ impl Live {
         ensures wanted { KnownAreWanted self.old }
     {
         if let Some(names) = self.kept_chain(&class, place) {
-            let copy = copy_names(alloc, names.as_slice())?;
-            return Ok(copy);
+            return Ok(names.share()?);
         }
         let names = evaluate_chain(
             alloc,
@@ -233,7 +237,7 @@ impl Live {
 
     /// The observer methods that are notified of an event of a type with some qualifiers, in order (CDI 4.0, Observer
     /// resolution; Observer ordering), where they are kept. It takes no memory.
-    pub fn kept_observers(&self, event_type: &Name, quals: &Quals) -> Option<&Seq<ObserverId>>
+    pub fn kept_observers(&self, event_type: &Name, quals: &Quals) -> Option<&Shared<ObserverId>>
         ensures known { is_some result ≡ knows self.now (EventKey event_type.now quals.now) }
         ensures observers { IfSome (option_copied result)
             (λ ids. ids ≡ notified self.now.decls (beans self.now.decls) event_type.now quals.now) }
@@ -251,7 +255,7 @@ impl Live {
         alloc: Global,
         event_type: Name,
         quals: &Quals,
-    ) -> Result<Seq<ObserverId>, AllocError>
+    ) -> Result<Shared<ObserverId>, AllocError>
         ensures observers { IfOk result (λ ids. ids ≡ notified self.old.decls (beans self.old.decls) event_type quals.now) }
         ensures decls { self.new.decls ≡ self.old.decls }
         ensures counts { self.new.counts ≡ self.old.counts }
@@ -261,12 +265,12 @@ impl Live {
         ensures wanted { KnownAreWanted self.old }
     {
         if let Some(ids) = self.kept_observers(&event_type, quals) {
-            let copy = copy_ids(alloc, ids)?;
-            return Ok(copy);
+            return ids.share();
         }
         let ids = evaluate_event(
             alloc,
             &self.index,
+            &mut self.lists,
             &mut self.memos.events,
             event_type,
             quals,
@@ -313,6 +317,7 @@ impl Live {
     {
         if let Some(going) = self.going.take() {
             self.memos.forget(going);
+            self.lists = EventLists::new(self.alloc);
             self.index.commit();
         }
     }

@@ -9,8 +9,8 @@ use crate::choices::forget;
 use crate::events::forget_events;
 use crate::gone::Gone;
 use cdi_memo::Memo;
-use cdi_model::{Name, Quals, Seq};
-use cdi_observe::ObserverId;
+use cdi_model::{Name, Quals};
+use cdi_observe::{ObserverId, Shared};
 use cdi_resolve::Choice;
 use std::alloc::Global;
 
@@ -18,8 +18,8 @@ use std::alloc::Global;
 /// the observer methods of events by their types and qualifiers.
 pub(crate) struct Memos {
     pub(crate) choices: Memo<Quals, Choice>,
-    pub(crate) chains: Memo<ChainPlace, Seq<Name>>,
-    pub(crate) events: Memo<Quals, Seq<ObserverId>>,
+    pub(crate) chains: Memo<ChainPlace, Shared<Name>>,
+    pub(crate) events: Memo<Quals, Shared<ObserverId>>,
 }
 
 impl Drop for Memos {

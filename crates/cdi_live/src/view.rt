@@ -4,8 +4,8 @@ ghost use Rattle.cdi_live.specs.State.{kept_in};
 
 use crate::live::Live;
 use cdi_effective::Effective;
-use cdi_model::{BeanPlace, Decls, Error, Name, Quals, Seq};
-use cdi_observe::{Lent, ObserverId, View};
+use cdi_model::{BeanPlace, Decls, Error, Name, Quals};
+use cdi_observe::{Lent, ObserverId, Shared, View};
 use cdi_resolve::Choice;
 use std::alloc::{AllocError, Global};
 
@@ -30,11 +30,11 @@ impl View for Live {
         Live::kept_choice(self, bean_type, quals)
     }
 
-    fn kept_chain(&self, class: &Name, place: &BeanPlace) -> Option<&Seq<Name>> {
+    fn kept_chain(&self, class: &Name, place: &BeanPlace) -> Option<&Shared<Name>> {
         Live::kept_chain(self, class, place)
     }
 
-    fn kept_observers(&self, event_type: &Name, quals: &Quals) -> Option<&Seq<ObserverId>> {
+    fn kept_observers(&self, event_type: &Name, quals: &Quals) -> Option<&Shared<ObserverId>> {
         Live::kept_observers(self, event_type, quals)
     }
 
@@ -59,7 +59,7 @@ impl View for Live {
         _alloc: Global,
         class: &Name,
         place: &BeanPlace,
-    ) -> Result<Lent<'_, Seq<Name>>, AllocError> {
+    ) -> Result<Lent<'_, Shared<Name>>, AllocError> {
         match Live::kept_chain(self, class, place) {
             Some(names) => Ok(Lent::Kept(names)),
             None => unreachable!(),
@@ -71,7 +71,7 @@ impl View for Live {
         _alloc: Global,
         event_type: &Name,
         quals: &Quals,
-    ) -> Result<Lent<'_, Seq<ObserverId>>, AllocError> {
+    ) -> Result<Lent<'_, Shared<ObserverId>>, AllocError> {
         match Live::kept_observers(self, event_type, quals) {
             Some(ids) => Ok(Lent::Kept(ids)),
             None => unreachable!(),
@@ -87,7 +87,12 @@ impl View for Live {
         Live::choose(self, alloc, bean_type, quals)
     }
 
-    fn chain(&mut self, alloc: Global, class: Name, place: &BeanPlace) -> Result<Seq<Name>, Error> {
+    fn chain(
+        &mut self,
+        alloc: Global,
+        class: Name,
+        place: &BeanPlace,
+    ) -> Result<Shared<Name>, Error> {
         Live::chain(self, alloc, class, place)
     }
 
@@ -96,7 +101,7 @@ impl View for Live {
         alloc: Global,
         event_type: Name,
         quals: &Quals,
-    ) -> Result<Seq<ObserverId>, AllocError> {
+    ) -> Result<Shared<ObserverId>, AllocError> {
         Live::observers(self, alloc, event_type, quals)
     }
 }

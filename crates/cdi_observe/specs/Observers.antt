@@ -65,6 +65,11 @@ is_notified ds quals o = list_all (event_has ds quals) o.method.qualifiers
 unfoldable pub resolved : List Decl → List Effective → List ℕ → List Qual → List Observer
 resolved ds beans t quals = filter (is_notified ds quals) (observing ds beans t)
 
+-- by their ids, those of the observer methods of one of some types of which an event with these qualifiers has each that they observe
+abbrev pub notified_by : List Decl → List Effective → List (List ℕ) → List Qual → List ObserverId
+notified_by ds beans types quals =
+    map observer_id (filter (is_notified ds quals) (sorted_by is_before (filter (observes types) (observers ds beans))))
+
 -- the same by their ids
 abbrev pub notified : List Decl → List Effective → List ℕ → List Qual → List ObserverId
 notified ds beans t quals = map observer_id (resolved ds beans t quals)

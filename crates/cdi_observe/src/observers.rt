@@ -1,14 +1,14 @@
 //! The observer methods that are notified of an event (CDI 4.0, Observer resolution).
-ghost use Rattle.std.specs.Prelude.{◌≡◌, ℕ, List, filter, map, IfOk, OnOk, OnErr};
+ghost use Rattle.std.specs.Prelude.{◌≡◌, filter, map, IfOk, OnOk, OnErr};
 ghost use Rattle.std.specs.List.{list_all};
 ghost use Rattle.cdi_model.specs.Work.{with_one};
-ghost use Rattle.cdi_match.specs.Types.{types_of};
 ghost use Rattle.cdi_effective.specs.Qualifiers.{some_covers};
 ghost use Rattle.cdi_observe.specs.Lent.{lent_in};
-ghost use Rattle.cdi_observe.specs.Observers.{event_has, is_notified, notified, observer_id};
+ghost use Rattle.cdi_observe.specs.Observers.{event_has, is_notified, notified, notified_by, observer_id};
 ghost use Rattle.cdi_observe.specs.Sees.{NotifiedRestOnSeen};
 
 use crate::lent_observers::{LentObserver, observers_in_order};
+use crate::shared::Shared;
 use cdi_effective::Effective;
 use cdi_match::{closure, covers};
 use cdi_model::{Decls, Ident, Name, ObserverDecl, Qual, Seq, UseKind, Work};
@@ -44,7 +44,7 @@ pub fn notified_of(
     beans: &[&Effective],
     event_type: Name,
     quals: &[Qual],
-) -> Result<Seq<ObserverId>, AllocError>
+) -> Result<Shared<ObserverId>, AllocError>
     ensures { IfOk result (λ ids. ids ≡ notified decls.now (map (λ bean. bean.now) beans.now) event_type quals.now) }
 {
     let types = closure(alloc, decls, event_type)?;
@@ -52,10 +52,10 @@ pub fn notified_of(
     notified_among(alloc, decls, &found, quals)
 }
 
-/// The same for an event that has these types, where the beans of which an observer method observes one are among these
-/// candidates, in order. It is counted as one evaluation: `Work` rises where they are answered, and not where memory runs
-/// out.
-#[tactic(auto, using(crate::proofs::SeenLemmas::notified_rest_on_seen), unfolding(crate::specs::Observers::resolved, crate::specs::Observers::observing))]
+/// The observer methods of these candidates which observe one of some types and are notified of an event with these
+/// qualifiers, in order: where these are the types of an event, those that are notified of it. It is counted as one
+/// evaluation: `Work` rises where they are answered, and not where memory runs out.
+#[tactic(auto, using(crate::proofs::SeenLemmas::notified_rest_on_seen))]
 pub fn evaluate_observers(
     alloc: Global,
     decls: &Decls,
@@ -63,9 +63,8 @@ pub fn evaluate_observers(
     types: &[Name],
     quals: &[Qual],
     work: &mut Work,
-) -> Result<Seq<ObserverId>, AllocError>
-    ensures observers { IfOk result (λ ids. (t : List ℕ) → types.now ≡ types_of decls.now t
-        → ids ≡ notified decls.now (map (λ bean. bean.now) candidates.now) t quals.now) }
+) -> Result<Shared<ObserverId>, AllocError>
+    ensures observers { IfOk result (λ ids. ids ≡ notified_by decls.now (map (λ bean. bean.now) candidates.now) types.now quals.now) }
     ensures work { OnOk result (work.new ≡ with_one work.old) }
     ensures err { OnErr result (work.new ≡ work.old) }
     ensures seen { NotifiedRestOnSeen }
@@ -82,10 +81,10 @@ fn notified_among(
     decls: &Decls,
     found: &[LentObserver],
     quals: &[Qual],
-) -> Result<Seq<ObserverId>, AllocError>
+) -> Result<Shared<ObserverId>, AllocError>
     ensures { IfOk result (λ ids. ids ≡ map observer_id (filter (is_notified decls.now quals.now) (lent_in found.now))) }
 {
-    let mut ids = Seq::new(alloc);
+    let mut ids = Vec::new(alloc);
     for observer in found {
         if is_notified(decls, quals, observer.method) {
             ids.push(ObserverId {
@@ -94,7 +93,7 @@ fn notified_among(
             })?;
         }
     }
-    Ok(ids)
+    Shared::from_vec(alloc, ids)
 }
 
 /// Whether an event with these qualifiers has each that an observer method observes.

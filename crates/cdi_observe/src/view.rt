@@ -16,9 +16,10 @@ ghost use Rattle.cdi_observe.specs.Observers.{notified};
 use crate::lent::Lent;
 use crate::observers::{ObserverId, notified_of};
 use crate::records::push_records;
+use crate::shared::Shared;
 use cdi_effective::Effective;
 use cdi_intercept::evaluate_chain;
-use cdi_model::{BeanPlace, Decls, Error, Name, Quals, Seq, Work};
+use cdi_model::{BeanPlace, Decls, Error, Name, Quals, Work};
 use cdi_resolve::{BeanList, Choice};
 use std::alloc::{AllocError, Global};
 use std::marker::Model;
@@ -58,13 +59,13 @@ pub trait View {
             (λ choice. choice ≡ chosen (list self.now) (beans_of (list self.now)) bean_type.now quals.now) };
 
     /// The names of the interceptors around a place of the bean of a class, where they are kept. It takes no memory.
-    fn kept_chain(&self, class: &Name, place: &BeanPlace) -> Option<&Seq<Name>>
+    fn kept_chain(&self, class: &Name, place: &BeanPlace) -> Option<&Shared<Name>>
         ensures known { is_some result ≡ (kept self.now).knows (ChainKey class.now place.now) }
         ensures chain { IfSome (option_copied result) (λ names. chain_of (list self.now) class.now place.now ≡ Ok names) };
 
     /// The observer methods that are notified of an event of a type with some qualifiers, where they are kept. It takes no
     /// memory.
-    fn kept_observers(&self, event_type: &Name, quals: &Quals) -> Option<&Seq<ObserverId>>
+    fn kept_observers(&self, event_type: &Name, quals: &Quals) -> Option<&Shared<ObserverId>>
         ensures known { is_some result ≡ (kept self.now).knows (EventKey event_type.now quals.now) }
         ensures observers { IfSome (option_copied result)
             (λ ids. ids ≡ notified (list self.now) (beans_of (list self.now)) event_type.now quals.now) };
@@ -87,7 +88,7 @@ pub trait View {
         alloc: Global,
         class: &Name,
         place: &BeanPlace,
-    ) -> Result<Lent<'_, Seq<Name>>, AllocError>
+    ) -> Result<Lent<'_, Shared<Name>>, AllocError>
         requires answerable { is_answerable (kept self.now) (ChainKey class.now place.now) ≡ true }
         requires told { IsOk (chain_of (list self.now) class.now place.now) }
         ensures { IfOk result (λ answer. chain_of (list self.now) class.now place.now ≡ Ok (lent_value answer)) };
@@ -98,7 +99,7 @@ pub trait View {
         alloc: Global,
         event_type: &Name,
         quals: &Quals,
-    ) -> Result<Lent<'_, Seq<ObserverId>>, AllocError>
+    ) -> Result<Lent<'_, Shared<ObserverId>>, AllocError>
         requires { is_answerable (kept self.now) (EventKey event_type.now quals.now) ≡ true }
         ensures { IfOk result
             (λ answer. lent_value answer ≡ notified (list self.now) (beans_of (list self.now)) event_type.now quals.now) };
@@ -123,7 +124,12 @@ pub trait View {
     /// Ordering), whether it is enabled or not. It is refused with `UnknownName` where no such bean is declared, and with
     /// `NoMethod` where it has no such place. It counts, and may give an edit up, as `choose` does; where it is refused or
     /// runs out of memory, the view has kept and counted nothing.
-    fn chain(&mut self, alloc: Global, class: Name, place: &BeanPlace) -> Result<Seq<Name>, Error>
+    fn chain(
+        &mut self,
+        alloc: Global,
+        class: Name,
+        place: &BeanPlace,
+    ) -> Result<Shared<Name>, Error>
         ensures chain { Answers result (chain_of (list self.old) class place.now) }
         ensures list { list self.new ≡ list self.old }
         ensures counts { counts self.new ≡ counts self.old }
@@ -139,7 +145,7 @@ pub trait View {
         alloc: Global,
         event_type: Name,
         quals: &Quals,
-    ) -> Result<Seq<ObserverId>, AllocError>
+    ) -> Result<Shared<ObserverId>, AllocError>
         ensures observers { IfOk result (λ ids. ids ≡ notified (list self.old) (beans_of (list self.old)) event_type quals.now) }
         ensures list { list self.new ≡ list self.old }
         ensures counts { counts self.new ≡ counts self.old }
@@ -204,11 +210,11 @@ impl<'a> View for PlainView<'a> {
         None
     }
 
-    fn kept_chain(&self, _class: &Name, _place: &BeanPlace) -> Option<&Seq<Name>> {
+    fn kept_chain(&self, _class: &Name, _place: &BeanPlace) -> Option<&Shared<Name>> {
         None
     }
 
-    fn kept_observers(&self, _event_type: &Name, _quals: &Quals) -> Option<&Seq<ObserverId>> {
+    fn kept_observers(&self, _event_type: &Name, _quals: &Quals) -> Option<&Shared<ObserverId>> {
         None
     }
 
@@ -230,10 +236,10 @@ impl<'a> View for PlainView<'a> {
         alloc: Global,
         class: &Name,
         place: &BeanPlace,
-    ) -> Result<Lent<'_, Seq<Name>>, AllocError> {
+    ) -> Result<Lent<'_, Shared<Name>>, AllocError> {
         let mut work = Work::new();
         match evaluate_chain(alloc, self.decls, *class, place, &mut work) {
-            Ok(names) => Ok(Lent::Made(names)),
+            Ok(names) => Ok(Lent::Made(Shared::from_vec(alloc, names.into_vec())?)),
             Err(Error::OutOfMemory) => Err(AllocError),
             Err(Error::Refused(_)) => unreachable!(),
         }
@@ -244,7 +250,7 @@ impl<'a> View for PlainView<'a> {
         alloc: Global,
         event_type: &Name,
         quals: &Quals,
-    ) -> Result<Lent<'_, Seq<ObserverId>>, AllocError> {
+    ) -> Result<Lent<'_, Shared<ObserverId>>, AllocError> {
         let mut beans = Vec::new(alloc);
         push_records(self.beans.as_slice(), &mut beans)?;
         let ids = notified_of(alloc, self.decls, &beans, *event_type, quals.as_slice())?;
@@ -264,9 +270,15 @@ impl<'a> View for PlainView<'a> {
     }
 
     #[tactic(auto, unfolding(crate::specs::Kept::after_key))]
-    fn chain(&mut self, alloc: Global, class: Name, place: &BeanPlace) -> Result<Seq<Name>, Error> {
+    fn chain(
+        &mut self,
+        alloc: Global,
+        class: Name,
+        place: &BeanPlace,
+    ) -> Result<Shared<Name>, Error> {
         let mut work = Work::new();
-        evaluate_chain(alloc, self.decls, class, place, &mut work)
+        let names = evaluate_chain(alloc, self.decls, class, place, &mut work)?;
+        Ok(Shared::from_vec(alloc, names.into_vec())?)
     }
 
     #[tactic(auto, unfolding(crate::specs::Kept::after_key))]
@@ -275,7 +287,7 @@ impl<'a> View for PlainView<'a> {
         alloc: Global,
         event_type: Name,
         quals: &Quals,
-    ) -> Result<Seq<ObserverId>, AllocError> {
+    ) -> Result<Shared<ObserverId>, AllocError> {
         let mut beans = Vec::new(alloc);
         push_records(self.beans.as_slice(), &mut beans)?;
         notified_of(alloc, self.decls, &beans, event_type, quals.as_slice())

@@ -65,7 +65,7 @@ fn push_place<B: Bodies>(
     ensures book { OnOk result (container.new.book ≡ container.old.book) }
 {
     match container.chain(bean, &place) {
-        Ok(interceptors) => push_chain(bean, place, interceptors, list),
+        Ok(interceptors) => push_chain(bean, place, interceptors.as_slice(), list),
         Err(Error::OutOfMemory) => Err(AllocError),
         Err(Error::Refused(_)) => Ok(()),
     }
@@ -74,14 +74,16 @@ fn push_place<B: Bodies>(
 fn push_chain(
     bean: Name,
     place: BeanPlace,
-    interceptors: Seq<Name>,
+    names: &[Name],
     list: &mut Vec<Surrounded>,
 ) -> Result<(), AllocError> {
-    if !interceptors.is_empty() {
+    if !names.is_empty() {
+        let mut interceptors = Vec::with_capacity(*list.allocator(), names.len())?;
+        interceptors.extend_from_slice(names)?;
         list.push(Surrounded {
             bean,
             place,
-            interceptors,
+            interceptors: Seq::from_vec(interceptors),
         })?;
     }
     Ok(())

@@ -8,16 +8,15 @@ use Rattle.base_lists.proofs.Flat.{flat-twice}
 use Rattle.cdi_model.specs.declared.decl.{BeanDecl.BeanDecl, Decl.Decl, ObserverDecl.ObserverDecl, ProducerDecl.ProducerDecl}
 use Rattle.cdi_model.specs.{declared.quals.Qual.Qual, DeclList.AreDistinct}
 use Rattle.cdi_model.specs.declared.decl.Decl.TheVariants as decls
-use Rattle.cdi_match.specs.{Chain.has, Types.types_of}
+use Rattle.cdi_match.specs.Chain.{has}
 use Rattle.cdi_effective.specs.Beans.{beans, effective, entries, managed_where, product_where}
 use Rattle.cdi_effective.specs.{Disposers.find_bean, Specialized.is_replaced, declared.records.Effective.Effective}
 use Rattle.cdi_effective.proofs.PlaceLemmas.{own-place, place-found}
 use Rattle.cdi_index.specs.Under.{has_name, observes_one}
 use Rattle.cdi_index.proofs.SoughtLemmas.{filter-under}
 use Rattle.cdi_resolve.specs.Choices.{candidate, choice_of, chosen_by_name, is_named, named, offers, HasEnough}
-use Rattle.cdi_observe.specs.Observers.{Observer, declared_by, enabled_bean, is_before, is_notified, notified, observer_id, observers}
-use Rattle.cdi_observe.specs.Observers.{observes, observing, resolved}
-use Rattle.cdi_observe.specs.declared.observers.ObserverId.{ObserverId}
+use Rattle.cdi_observe.specs.Observers.{Observer, declared_by, enabled_bean, is_before, is_notified, notified_by, observer_id, observers}
+use Rattle.cdi_observe.specs.Observers.{observes}
 
 -- ---- choices
 
@@ -106,12 +105,8 @@ module _ (ds : List Decl) (types : List (List ℕ)) where
       ∙ filter-under (λ d. flat_map of_record (entries ds d)) (observes_one types) (observes types) ds (none-of-decl distinct)
       ∙ sym (ap (filter (observes types)) (flat-twice of_record (entries ds) ds))
 
--- of the beans of the declarations that observe one of the types of an event
-pub observing_enough : (ds : List Decl) (types : List (List ℕ)) (quals : List Qual) → AreDistinct ds → (t : List ℕ) → types ≡ types_of ds t
-    → notified ds (flat_map (entries ds) (filter (observes_one types) ds)) t quals ≡ notified ds (beans ds) t quals
-unfolding resolved observing
-observing_enough ds types quals distinct t are =
-    let left : List Effective = flat_map (entries ds) (filter (observes_one types) ds) in
-    let shown : List Observer → List ObserverId = λ os. map observer_id (filter (is_notified ds quals) (sorted_by is_before os)) in
-    ap (λ ts. shown (filter (observes ts) (observers ds left))) (sym are) ∙ ap shown (same-observers ds types distinct)
-    ∙ ap (λ ts. shown (filter (observes ts) (observers ds (beans ds)))) are
+-- of the beans of the declarations that observe one of some types
+pub observing_enough : (ds : List Decl) (types : List (List ℕ)) (quals : List Qual) → AreDistinct ds
+    → notified_by ds (flat_map (entries ds) (filter (observes_one types) ds)) types quals ≡ notified_by ds (beans ds) types quals
+observing_enough ds types quals distinct =
+    ap (λ os. map observer_id (filter (is_notified ds quals) (sorted_by is_before os))) (same-observers ds types distinct)

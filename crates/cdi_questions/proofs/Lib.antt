@@ -1,2 +1,3 @@
 pub mod AlternativeLemmas
 pub mod CandidateLemmas
+pub mod ObservedLemmas

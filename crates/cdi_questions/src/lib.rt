@@ -3,4 +3,4 @@
 
 mod questions;
 
-pub use questions::{choose, choose_name, observers};
+pub use questions::{choose, choose_name, observed_types, observers};

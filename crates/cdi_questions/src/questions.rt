@@ -1,16 +1,17 @@
 //! Questions that look only at the beans which the index lists for them.
-ghost use Rattle.std.specs.Prelude.{◌≡◌, ℕ, List, IfOk, OnOk, OnErr};
+ghost use Rattle.std.specs.Prelude.{◌≡◌, ◌++◌, ◌∷◌, [], ℕ, List, filter, IfOk, OnOk, OnErr};
 ghost use Rattle.cdi_model.specs.Work.{with_one};
-ghost use Rattle.cdi_match.specs.Types.{types_of};
 ghost use Rattle.cdi_effective.specs.Beans.{beans};
+ghost use Rattle.cdi_index.specs.Under.{is_observed};
 ghost use Rattle.cdi_resolve.specs.Choices.{chosen, chosen_by_name};
 ghost use Rattle.cdi_observe.specs.Observers.{notified};
 ghost use Rattle.cdi_questions.specs.Found.{is_found};
+ghost use Rattle.cdi_questions.specs.Observed.{observed_types};
 
 use cdi_index::{Candidates, Index};
 use cdi_match::closure;
-use cdi_model::{Name, Qual, Quals, Seq, Work};
-use cdi_observe::{ObserverId, evaluate_observers};
+use cdi_model::{Name, Qual, Quals, Work};
+use cdi_observe::{ObserverId, Shared, evaluate_observers};
 use cdi_resolve::{Choice, choose_from};
 use std::alloc::{AllocError, Global};
 
@@ -78,42 +79,59 @@ pub fn choose_name(alloc: Global, index: &Index, name: Name) -> Result<Choice, A
     cdi_resolve::choose_name(alloc, &candidates, name)
 }
 
-/// The observer methods that are notified of an event of a type with some qualifiers, in order (CDI 4.0, Observer
-/// resolution; Observer ordering). A type or a qualifier that is not declared is taken as it is. It takes memory for lists
-/// of the beans of which an observer method observes a type of the event, and of these methods. It is counted as `choose`
-/// is.
-pub fn observers(
+/// The types of an event of a type that some observer method observes, in order. A type that is not declared is taken as it is.
+/// It takes memory for a list of them, and where the type is not declared for its types.
+pub fn observed_types(
     alloc: Global,
     index: &Index,
     event_type: Name,
-    quals: &Quals,
-    work: &mut Work,
-) -> Result<Seq<ObserverId>, AllocError>
-    ensures observers { IfOk result (λ ids. ids ≡ notified index.now.decls (beans index.now.decls) event_type quals.now) }
-    ensures work { OnOk result (work.new ≡ with_one work.old) }
-    ensures err { OnErr result (work.new ≡ work.old) }
+) -> Result<Vec<Name>, AllocError>
+    ensures { IfOk result (λ types. types.items ≡ observed_types index.now.decls event_type) }
 {
     if let Some(types) = index.types(&event_type) {
-        return observers_of_types(alloc, index, types, quals.as_slice(), work);
+        return observed_among(alloc, index, types);
     }
     let types = closure(alloc, index.decls(), event_type)?;
-    observers_of_types(alloc, index, &types, quals.as_slice(), work)
+    observed_among(alloc, index, &types)
 }
 
-/// The observer methods that are notified of an event which has these types.
-#[tactic(auto, using(crate::proofs::CandidateLemmas::observing_enough))]
-fn observers_of_types(
+/// Those of some types that some observer method observes, in order.
+fn observed_among(alloc: Global, index: &Index, types: &[Name]) -> Result<Vec<Name>, AllocError>
+    ensures { IfOk result (λ list. list.items ≡ filter (is_observed index.now.decls) types.now) }
+{
+    let mut list = Vec::new(alloc);
+    for name in types {
+        push_observed(index, name, &mut list)?;
+    }
+    Ok(list)
+}
+
+/// Appends a type, if some observer method observes it.
+fn push_observed(index: &Index, name: &Name, list: &mut Vec<Name>) -> Result<(), AllocError>
+    ensures { OnOk result (list.new.items ≡ list.old.items ++ filter (is_observed index.now.decls) (name.now ∷ [])) }
+{
+    if index.is_observed(name) {
+        list.push(*name)?;
+    }
+    Ok(())
+}
+
+/// The observer methods that are notified of an event with some qualifiers, in order, where these are the types of it that
+/// some observer method observes (CDI 4.0, Observer resolution; Observer ordering). A qualifier that is not declared is
+/// taken as it is. It takes memory for lists of the beans of which an observer method observes one of these, and of these
+/// methods. It is counted as `choose` is.
+pub fn observers(
     alloc: Global,
     index: &Index,
-    types: &[Name],
+    observed: &[Name],
     quals: &[Qual],
     work: &mut Work,
-) -> Result<Seq<ObserverId>, AllocError>
-    ensures observers { IfOk result (λ ids. (t : List ℕ) → types.now ≡ types_of index.now.decls t
+) -> Result<Shared<ObserverId>, AllocError>
+    ensures observers { IfOk result (λ ids. (t : List ℕ) → observed.now ≡ observed_types index.now.decls t
         → ids ≡ notified index.now.decls (beans index.now.decls) t quals.now) }
     ensures work { OnOk result (work.new ≡ with_one work.old) }
     ensures err { OnErr result (work.new ≡ work.old) }
 {
-    let candidates = index.beans_observing(alloc, types)?;
-    evaluate_observers(alloc, index.decls(), &candidates, types, quals, work)
+    let candidates = index.beans_observing(alloc, observed)?;
+    evaluate_observers(alloc, index.decls(), &candidates, observed, quals, work)
 }

@@ -2,7 +2,8 @@
 use Rattle.cdi_report.proofs.Common.{◌≡◌, ℕ, Bool, true, false, cond, List, [], ◌∷◌, flat_map, Option, Some, None, refl, sym, ap, ◌∙◌}
 use Rattle.cdi_report.proofs.Common.{false≢true, same_key, same_key_equiv, Decl, DeclKey, ◌||◌, ◌++◌, suc, key_of, list_any, filter, arith, contains}
 use Rattle.std.proofs.Common.{◌+◌}
-use Rattle.cdi_report.proofs.Common.{is_of, key_exact, is_open, Unsettled, AreDistinct, open_of, option_map_or, is_marked, marked_from}
+use Rattle.std.proofs.Math.Bool.{or-false}
+use Rattle.cdi_report.proofs.Common.{is_of, key_exact, is_open, is_changed, changed_of, Unsettled, AreDistinct, open_of, option_map_or, is_marked, marked_from}
 use Rattle.cdi_report.proofs.Common.{decls_at, is_at}
 use Rattle.std.proofs.{Common.position, Common.slice_get, Common.get_or, lemmas.Bool.eq-eqb, lemmas.Bool.eqb-true}
 use Rattle.std.proofs.lemmas.{List.Quantifiers.position-Some, Option.slice_get-get_or}
@@ -105,6 +106,11 @@ filter-same : (test other : Decl → Bool) (ds : List Decl) → ((d : Decl) → 
 filter-same test other [] same = refl
 filter-same test other (d ∷ ds) same = ap (λ b. cond b (d ∷ filter test ds) (filter test ds)) (same d)
     ∙ ap (λ es. cond (other d) (d ∷ es) es) (filter-same test other ds same)
+
+-- where none was faulty, they are those that may have changed
+pub none-faulty : (u : Unsettled) (ds : List Decl) → u.faulty.keys ≡ [] → open_of u ds ≡ changed_of u ds
+none-faulty u ds none = filter-same (λ d. is_open u (key_of d)) (λ d. is_changed u (key_of d)) ds
+    (λ d. ap (λ ks. is_changed u (key_of d) || list_any (same_key (key_of d)) ks) none ∙ or-false (is_changed u (key_of d)))
 
 -- else they are those that have one of the keys
 pub some-open : (u : Unsettled) (ds : List Decl) (keys faulty : List DeclKey) → u.is_each ≡ false → keys ≡ u.keys.keys

@@ -25,9 +25,9 @@ impl Unsettled {
     /// tells it (CDI 4.0, Problems detected automatically by the container). It asks for what is not known, and leaves those of these
     /// declarations that have faults. It looks at these alone, with one exception: for the faults that several declarations have
     /// together it looks at all, of names, of circles and of beans that specialize one each by itself, where one of these may have
-    /// such a fault that has changed since the last report. It takes memory for the faults and for what they are found by, and where
-    /// the view does. Where none is left, some of the keys were asked, and the same declarations are left. An edit that is staged
-    /// stays where each of the keys is known.
+    /// changed and may have such a fault, or where some were found before. It takes memory for the faults and for what they are found
+    /// by, and where the view does. Where none is left, some of the keys were asked, and the same declarations are left. An edit that
+    /// is staged stays where each of the keys is known.
     pub fn report<V: View, B: Bodies>(
         &mut self,
         alloc: Global,
@@ -50,7 +50,7 @@ impl Unsettled {
         let list = self.among(alloc, &decls)?;
         evaluate_rest(alloc, view, list.as_slice())?;
         let found = find(alloc, &*view, book, self, list.as_slice())?;
-        self.settle(found.keys, found.together);
+        self.settle(alloc, found.keys, found.together);
         Ok(found.faults)
     }
 }
@@ -74,7 +74,6 @@ fn find<V: View, B: Bodies>(
         ≡ list_any (λ d. same_key (key_of d) k && has_faults (V.list view.now) (B.promises book.now) d) (open_of open.now (V.list view.now))) }
     ensures together { IfOk result (λ found. HaveNoneTogether (V.list view.now) (V.list view.now) found.together) }
 {
-    let changed = open.changed(alloc, decls)?;
-    let together = open.together(alloc, view, changed.as_slice())?;
+    let together = open.together(alloc, view, decls)?;
     faults_among(alloc, view, book, decls, together)
 }

@@ -130,17 +130,14 @@ impl Unsettled {
     }
 
     /// What a report leaves that found this. It takes no memory.
-    pub(crate) fn settle(&mut self, faulty: IndexSet<DeclKey>, anew: Together)
-        ensures each { self.new.is_each ≡ false }
+    pub(crate) fn settle(&mut self, alloc: Global, faulty: IndexSet<DeclKey>, anew: Together)
         ensures changed { (k : _) → is_changed self.new k ≡ false }
         ensures faulty { self.new.faulty ≡ faulty }
         ensures anew { self.new.anew ≡ anew }
     {
         self.is_each = false;
-        // To clear a set takes the time of its room.
-        if !self.keys.is_empty() {
-            self.keys.clear();
-        }
+        // A new set, since to clear one takes the time of its room.
+        self.keys = IndexSet::new(alloc);
         self.faulty = faulty;
         self.anew = anew;
     }

@@ -1,8 +1,8 @@
 //! Answers, and what they are to be.
 use crate::texts::{are_names, are_observers};
-use cdi_container::{Choice, Counts, ObserverId};
+use cdi_container::{Choice, Counts, ObserverId, Shared};
 use cdi_fixtures::are_of;
-use cdi_model::{Error, Name, Refusal, Seq};
+use cdi_model::{Error, Name, Refusal};
 
 /// What a call is to answer. Beans are given by the names of their classes, and faults by their texts, each on a line.
 #[derive(Clone, Copy)]
@@ -29,8 +29,8 @@ pub enum Answered {
     /// The texts of faults, each on a line.
     Faults(Vec<u8>),
     Counts(Counts),
-    Names(Seq<Name>),
-    Observers(Seq<ObserverId>),
+    Names(Shared<Name>),
+    Observers(Shared<ObserverId>),
 }
 
 /// Whether a call answered what it is to answer. `None` where it had no memory.

@@ -3,9 +3,9 @@ use crate::Difference;
 use crate::answers::{Answer, Answered, agrees};
 use Answer::{Ambiguous, Around, Counted, Done, Faults, Observed, One, Refused, Unsatisfied};
 use Call::{Beans, Books, Chain, Choose, Counts, Named, Observers, Promises, Put, Remove, Report};
-use cdi_container::{Bodies, Book, Choice, Container, Promise, PromiseBook, read_quals};
+use cdi_container::{Bodies, Book, Choice, Container, Promise, PromiseBook, Shared, read_quals};
 use cdi_fixtures::{lines_of, name};
-use cdi_model::{BeanPlace, Error, Ident, Kind, Refusal, Seq};
+use cdi_model::{BeanPlace, Error, Ident, Kind, Refusal};
 use cdi_stock::stock_bodies;
 use std::alloc::{AllocError, Global};
 
@@ -267,11 +267,11 @@ fn books(alloc: Global) -> Result<Answered, Error> {
 }
 
 fn beans<B: Bodies>(alloc: Global, container: &Container<B>) -> Result<Answered, Error> {
-    let mut classes = Seq::new(alloc);
+    let mut classes = Vec::new(alloc);
     for bean in container.beans() {
         classes.push(bean.id.class)?;
     }
-    Ok(Answered::Names(classes))
+    Ok(Answered::Names(Shared::from_vec(alloc, classes)?))
 }
 
 fn promises(alloc: Global) -> Result<Answered, Error> {

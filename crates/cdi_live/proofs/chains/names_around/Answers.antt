@@ -1,7 +1,6 @@
-use Rattle.cdi_live.proofs.Common.{◌≡◌, List, map, filter, flat_map, ap, ◌∙◌, Decl, Qual, InterceptorDecl, in_text_order, in_order, surrounds}
-use Rattle.cdi_live.proofs.Common.{is_seen, names_around, Word, set_by, has_one, words_bound, IfOk-weaker, sorted_by, enabled_in, lent_in}
+use Rattle.cdi_live.proofs.Common.{◌≡◌, List, map, filter, ap, ◌∙◌, Decl, Qual, InterceptorDecl, in_text_order, in_order, surrounds}
+use Rattle.cdi_live.proofs.Common.{is_seen, names_around, Word, set_by, has_one, words_bound, IfOk-weaker, lent_in}
 use Rattle.cdi_match.specs.Bindings.{uses_in}
-use Rattle.cdi_intercept.specs.Chains.{is_before}
 use Rattle.cdi_live.proofs.{AroundLemmas.around-found, InterceptorLemmas.seen-found}
 use Rattle.cdi_live.proofs.chains.names_around.Goals as goal
 

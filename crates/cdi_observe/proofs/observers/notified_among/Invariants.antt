@@ -3,5 +3,5 @@ use Rattle.cdi_observe.proofs.observers.notified_among.Given as goal
 
 abbrev pub invariant-loop-observer : goal.invariant-loop-observer
 invariant-loop-observer l =
-    l.ids ++ map observer_id (filter (is_notified l.decls l.quals) (lent_in (drop l.observer-index l.found)))
+    l.ids.items ++ map observer_id (filter (is_notified l.decls l.quals) (lent_in (drop l.observer-index l.found)))
     ≡ map observer_id (filter (is_notified l.decls l.quals) (lent_in l.found))

@@ -1,19 +1,11 @@
 use Rattle.cdi_report.proofs.Common.{◌++◌, ap, ◌∙◌, same_key, key_of, ◌&&◌, list_any, open_of, faults_of, has_faults, faults_together}
-use Rattle.cdi_report.proofs.Common.{IfOk-weaker, flat_map, map, filter, is_changed, is_open, or_left}
-use Rattle.cdi_report.proofs.{SettledLemmas.open-found, TogetherLemmas.filter-filter, TogetherLemmas.none-anew, TogetherLemmas.together-told}
+use Rattle.cdi_report.proofs.Common.{IfOk-weaker, flat_map}
+use Rattle.cdi_report.proofs.{SettledLemmas.open-found, TogetherLemmas.none-anew, TogetherLemmas.together-told}
 use Rattle.cdi_report.proofs.report.find.Goals as goal
 
 pub faults_among-requires-clause-found : goal.faults_among-requires-clause-found
 faults_among-requires-clause-found g c =
     open-found (λ d. d.now) c.args.decls.now (g.V.View.list c.args.view.now) c.args.open.now c.requires.distinct c.requires.decls
-
-pub together-requires-clause-decls : goal.together-requires-clause-decls
-together-requires-clause-decls g c =
-    let u = c.args.open.now in
-    ap (map (λ d. d.now)) c.as_slice.ensures.value ∙ c.in_ok-changed.ensures
-    ∙ ap (filter (λ d. is_changed u (key_of d))) c.requires.decls
-    ∙ filter-filter (λ d. is_open u (key_of d)) (λ d. is_changed u (key_of d)) (g.V.View.list c.args.view.now)
-    (λ d changed. or_left (is_changed u (key_of d)) _ changed)
 
 pub returns-clause-faults : goal.returns-clause-faults
 returns-clause-faults g c =

@@ -20,6 +20,7 @@ invariant_of-self-2 c =
       kept = kept-with-chain ds c.self.inside.memos c.evaluate_chain.new.chains class place c.in_ok-names.names wanted
           c.in_ok-names.ensures.kept
           c.in_ok-names.ensures.chain c.self.invariant.kept;
+      shared = c.self.invariant.shared;
       staged = tt;
     }
 

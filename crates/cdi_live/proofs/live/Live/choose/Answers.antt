@@ -14,6 +14,7 @@ invariant_of-self-2 c = record {
   default = inl c.in_ok-make_default.ensures.ok;
   kept = kept-with-choice c.self.inside.index.decls c.self.inside.memos c.evaluate.new.choices c.args.bean_type c.required_of.result.now
       c.in_ok-choice.choice c.in_ok-choice.ensures.kept c.in_ok-choice.ensures.choice c.self.invariant.kept;
+  shared = c.self.invariant.shared;
   staged = tt;
 }
 
