@@ -14,8 +14,6 @@ pub use Rattle.std.specs.BTreeMap.{is_at}
 pub use Rattle.std.proofs.lemmas.List.Folds.{list_any-append}
 pub use Rattle.std.specs.Option.{option_or, option_to_list}
 pub use Rattle.std.specs.Map.{keys_of}
-pub use Rattle.std.specs.BTreeSet.{contains}
-pub use Rattle.std.proofs.lemmas.Result.{IfOk-weaker}
 pub use Rattle.std.proofs.lemmas.Grind.{common_steps}
 pub use Rattle.base_numbers.proofs.Texts.{same_text, bytes_eq-turned, one_text}
 pub use Rattle.cdi_positions.proofs.MarkLemmas.{HasOneMore}

@@ -6,7 +6,7 @@ ghost use Rattle.cdi_match.specs.Chain.{Circle};
 ghost use Rattle.cdi_match.specs.Locality.{EditsKeepBindings};
 
 use crate::followers::Links;
-use crate::walk::{in_order, leads_on, reached};
+use crate::walk::{each_once, leads_on, reached};
 use cdi_model::{Decl, Decls, Kind, Name, Qual};
 use std::alloc::{AllocError, Global};
 
@@ -54,7 +54,7 @@ pub fn types_brought(alloc: Global, decls: &Decls, uses: &[&Qual]) -> Result<Vec
         names.push(binding.name)?;
     }
     let found = reached(alloc, decls, Links::Bindings, names.as_slice())?;
-    in_order(alloc, found)
+    Ok(each_once(found))
 }
 
 /// Whether a binding type reaches itself by a chain of one `declares` or more. It takes no memory.

@@ -1,7 +1,6 @@
 //! The search for the names to which chains lead. It keeps positions of declarations, and takes no memory for them.
-ghost use Rattle.std.specs.Prelude.{◌≡◌, ◌<◌, ◌∷◌, ◌||◌, [], List, ℕ, Option, Some, Bool, true, false, position, IfOk, OnOk};
+ghost use Rattle.std.specs.Prelude.{◌≡◌, ◌<◌, ◌∷◌, ◌++◌, [], List, ℕ, Option, Some, Bool, true, false, position, IfOk, OnOk};
 ghost use Rattle.std.specs.Prelude.{IfSome, IfNone};
-ghost use Rattle.std.specs.BTreeSet.{contains};
 ghost use Rattle.std.specs.List.Sorted.{IsStrictlySortedBy};
 ghost use Rattle.cdi_model.specs.Bytes.{byte_order};
 ghost use Rattle.cdi_model.specs.declared.decl.Decl.{Decl as AnyDecl};
@@ -16,7 +15,6 @@ use crate::followers::{Followers, Links, following};
 use cdi_model::{Decls, Name};
 use cdi_positions::{PositionQueue, PositionSet};
 use std::alloc::{AllocError, Global};
-use std::collections::BTreeSet;
 
 /// The declarations that were found, and those of them that are left to be taken, by their positions.
 #[derive(Drop)]
@@ -168,40 +166,43 @@ fn has_name(names: Followers<'_>, goal: &Name) -> bool
     false
 }
 
-/// The names to which chains lead from some names, these included. It takes memory for them.
+/// The names to which chains lead from some names, these included. One may be there several times. It takes memory for them.
 pub(crate) fn reached(
     alloc: Global,
     decls: &Decls,
     links: Links,
     starts: &[Name],
-) -> Result<BTreeSet<Name>, AllocError>
-    ensures { IfOk result (λ found. (s : List ℕ) → contains byte_order found s ≡ is_led_to links decls.now starts.now s) }
+) -> Result<Vec<Name>, AllocError>
+    ensures { IfOk result (λ found. (s : List ℕ) → has found.items s ≡ is_led_to links decls.now starts.now s) }
 {
-    let mut found = BTreeSet::new(alloc);
-    add_names(Followers::of_names(starts), &mut found)?;
+    let mut found = Vec::new(alloc);
+    push_names(Followers::of_names(starts), &mut found)?;
     let Some(mut walk) = Walk::from(decls, links, Followers::of_names(starts)) else {
         return Ok(found);
     };
     'taken: while let Some(names) = walk.take_one(decls, links) {
-        add_names(names, &mut found)?;
+        push_names(names, &mut found)?;
     }
     Ok(found)
 }
 
-/// Adds some names to those that were found.
-fn add_names(names: Followers<'_>, found: &mut BTreeSet<Name>) -> Result<(), AllocError>
-    ensures { OnOk result ((s : List ℕ) → contains byte_order found.new s ≡ (contains byte_order found.old s || has names.entry s)) }
+/// Appends some names.
+fn push_names(names: Followers<'_>, found: &mut Vec<Name>) -> Result<(), AllocError>
+    ensures { OnOk result (found.new.items ≡ found.old.items ++ names.entry) }
 {
     for name in names {
-        found.insert(*name)?;
+        found.push(*name)?;
     }
     Ok(())
 }
 
-/// The names of a set, in order. It takes memory where there are some.
-pub fn in_order(alloc: Global, names: BTreeSet<Name>) -> Result<Vec<Name>, AllocError>
-    ensures value { IfOk result (λ list. list.items ≡ names.keys) }
-    ensures order { IsStrictlySortedBy byte_order names.keys }
+/// Some names, each once, in byte order. It takes no memory.
+pub fn each_once(names: Vec<Name>) -> Vec<Name>
+    ensures names { (name : List ℕ) → has result.items name ≡ has names.items name }
+    ensures order { IsStrictlySortedBy byte_order result.items }
 {
-    names.into_iter().collect(alloc)
+    let mut list = names;
+    list.sort_unstable();
+    list.dedup();
+    list
 }

@@ -7,7 +7,7 @@ pub use Rattle.std.specs.List.{flat_map, AllByRecursion, find, slice_get, list_a
 pub use Rattle.std.proofs.lemmas.List.{nil_from_length, at_drop_more, length-append, map-append, take_more, drop_all, take_all}
 pub use Rattle.std.proofs.lemmas.Bool.{eqb-true, false≢true, or_left, and_parts, or_cases, or_right, or_parts, eq-eqb, le-leb, leb-true}
 pub use Rattle.std.specs.{Option.option_to_list, Option.unwrap_or, Str.bytes_eq, Map.keys_of, Map.lookup, Ordering.nat_cmp}
-pub use Rattle.std.specs.{Ordering.ordering_then, BTreeSet.insert_key, BTreeSet.contains}
+pub use Rattle.std.specs.{Ordering.ordering_then, BTreeSet.insert_key}
 pub use Rattle.std.proofs.lemmas.List.Elements.{filter-append, filter_agree}
 pub use Rattle.std.proofs.Math.Bool.{and-false, or-false, or_assoc, or_comm}
 pub use Rattle.std.proofs.lemmas.{Option.same_Some, Option.none-some, Cmp.tied_itself, Cmp.nat_cmp_total, List.Folds.list_any-append}

@@ -1,8 +1,8 @@
 -- Beans by the interceptors around their places, and that these are all to which an interceptor gives something to need.
 use Rattle.cdi_validate.proofs.Common.{◌≡◌, List, ◌++◌, sym, ap, ◌∙◌, flat_map, Decl, ◌<◌, ℕ, Bool, true, false, cond, [], ◌∷◌}
 use Rattle.cdi_validate.proofs.Common.{length, map, refl, IsStrictlySortedBy, bytes_eq, AreDistinct, has, Some, None, append-nil, slice_get, one_text}
-use Rattle.cdi_validate.proofs.Common.{BeanDecl, InterceptorDecl, text_of_id, is_enabled, stands_around, managed_id, need_around, ◌||◌, Option}
-use Rattle.cdi_validate.proofs.Common.{get_or, ◌+◌, unwrap_or, flat_map-append, drop, byte_order, or_assoc, Vec, Global, next-left, rise-next}
+use Rattle.cdi_validate.proofs.Common.{BeanDecl, InterceptorDecl, text_of_id, is_enabled, stands_around, managed_id, need_around, Option}
+use Rattle.cdi_validate.proofs.Common.{get_or, ◌+◌, unwrap_or, flat_map-append, drop, byte_order, Vec, Global, next-left, rise-next}
 use Rattle.cdi_validate.proofs.Common.{get, option_to_list, names_of_bean, stands-named}
 use Rattle.cdi_model.specs.declared.decl.Decl.TheVariants as decls
 use Rattle.cdi_resolve.proofs.PlaceLemmas.{none-after}
@@ -10,20 +10,6 @@ use Rattle.cdi_ways.specs.declared.edge.Edge.{Edge}
 use Rattle.cdi_validate.proofs.NeedLemmas.{edges_of-append}
 use Rattle.cdi_validate.specs.Needed.{edge, edges_of, numbers_of, Numbers}
 use Rattle.cdi_validate.specs.Surrounded.{number_around, numbers_in}
-
--- ---- lists, one element after another
-
--- what holds of one of the elements that were taken, or of one that is left
-pub one-next : {X : Type 0} (f : List X → Bool) (xs : List X) (i : ℕ) (x : X) (here old new all : Bool) → i < length xs
-    → x ≡ get_or xs i x
-    → f (x ∷ drop (i + 1) xs) ≡ (here || f (drop (i + 1) xs))
-    → new ≡ (old || here)
-    → (old || f (drop i xs)) ≡ all
-    → (new || f (drop (i + 1) xs)) ≡ all
-one-next f xs i x here old new all lt is first added before =
-    let left = f (drop (i + 1) xs) in
-    ap (λ b. b || left) added ∙ or_assoc old here left ∙ ap (λ b. old || b) (sym first)
-    ∙ sym (next-left (λ ys. old || f ys) xs i x lt is) ∙ before
 
 -- ---- numbers by names
 

@@ -1,16 +1,15 @@
 //! Beans by the interceptors around their places.
 ghost use Rattle.std.specs.Prelude.{◌≡◌, ◌∷◌, ◌++◌, [], ℕ, List, IfOk, OnOk, if◌then◌else◌};
-ghost use Rattle.std.specs.BTreeSet.{contains};
 ghost use Rattle.std.specs.List.Sorted.{IsStrictlySortedBy};
 ghost use Rattle.std.specs.Str.{bytes_eq};
 ghost use Rattle.cdi_match.specs.Chain.{has};
 ghost use Rattle.cdi_model.specs.Bytes.{byte_order};
 ghost use Rattle.cdi_validate.specs.Surrounded.{numbers_at};
 
-use cdi_match::in_order;
+use cdi_match::each_once;
 use cdi_model::Name;
 use std::alloc::{AllocError, Global};
-use std::collections::{BTreeMap, BTreeSet};
+use std::collections::BTreeMap;
 
 /// The numbers of the beans around a place of which an interceptor is. It takes no memory.
 pub(crate) fn numbers_around<'a>(
@@ -35,20 +34,10 @@ pub(crate) fn add_number(
     ensures { OnOk result ((name : List ℕ) → numbers_at by_interceptor.new name
         ≡ numbers_at by_interceptor.old name ++ (if has names.now name then number ∷ [] else [])) }
 {
-    let names = each_once(alloc, names)?;
-    add_to_each(alloc, names.as_slice(), number, by_interceptor)
-}
-
-/// Some names, each once, in byte order.
-fn each_once(alloc: Global, names: &[Name]) -> Result<Vec<Name>, AllocError>
-    ensures names { IfOk result (λ list. (name : List ℕ) → has list.items name ≡ has names.now name) }
-    ensures order { IfOk result (λ list. IsStrictlySortedBy byte_order list.items) }
-{
-    let mut set = BTreeSet::new(alloc);
-    for name in names {
-        set.insert(*name)?;
-    }
-    in_order(alloc, set)
+    let mut list = Vec::with_capacity(alloc, names.len())?;
+    list.extend_from_slice(names)?;
+    let list = each_once(list);
+    add_to_each(alloc, list.as_slice(), number, by_interceptor)
 }
 
 /// Adds a number to those of some names.
