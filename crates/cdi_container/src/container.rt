@@ -358,8 +358,8 @@ impl<B: Bodies> Container<B> {
     /// The names of the interceptors around a place of the bean of a class, in the order in which they are called
     /// (Interceptors 2.1, Interceptor Ordering), whether the bean is enabled or not. It is refused with `UnknownName` where
     /// no such bean is declared, and with `NoMethod` where it has no such place, as of a static producer method. An answer that
-    /// is known is copied. Else it is computed, counted, and known from then on: it takes memory for the bindings there, for the
-    /// interceptors that have one of them, for the names, and to keep these.
+    /// is known is shared. Else it is computed, counted, and known from then on: it takes memory for the bindings there, for the
+    /// interceptors that have one of them, and for the names.
     pub fn chain(&mut self, bean: Name, place: &BeanPlace) -> Result<Shared<Name>, Error>
         ensures answer { Answers result (chain_of self.old.decls bean place.now) }
         ensures ok { OnOk result (self.new ≡ untold (asked self.old (ChainKey bean place.now ∷ []))) }
@@ -377,7 +377,7 @@ impl<B: Bodies> Container<B> {
 
     /// The observer methods that are notified of an event of a type with some qualifiers, in order (CDI 4.0, Observer
     /// resolution; Observer ordering). A type or a qualifier that is not declared is taken as it is. An answer that is known is
-    /// copied. Else it is computed, counted, and known from then on if a body may fire the event: only the beans of which an
+    /// shared. Else it is computed, counted, and known from then on if a body may fire the event: only the beans of which an
     /// observer method observes a type of the event are looked at, and it takes memory for lists of these and of the methods,
     /// and to keep the answer.
     pub fn observers(

@@ -7,7 +7,7 @@ unfoldable pub use Rattle.std.specs.List.{IsDistinct}
 pub use Rattle.std.proofs.lemmas.Bool.{or_parts, or_left, false≢true, or_right, and_from, or_cases, eqb-true, and_parts}
 pub use Rattle.std.specs.Str.{bytes_eq}
 pub use Rattle.std.proofs.lemmas.List.Folds.{list_any_more, list_any-append}
-pub use Rattle.std.specs.Option.{option_map_or, option_to_list, option_copied}
+pub use Rattle.std.specs.Option.{option_map_or, option_to_list}
 pub use Rattle.std.specs.Result.{OnOk}
 pub use Rattle.std.specs.Map.{lookup}
 pub use Rattle.indexmap.specs.IndexMap.{get, spare}
@@ -27,7 +27,7 @@ pub use Rattle.cdi_model.specs.declared.decl.BindingDecl.{BindingDecl}
 pub use Rattle.cdi_model.specs.declared.decl.Decl.{Decl}
 pub use Rattle.cdi_model.specs.declared.decl.Kind.{Kind}
 pub use Rattle.cdi_model.specs.declared.edit.Edit.{Edit}
-pub use Rattle.cdi_model.specs.DeclList.{find_decl, is_of, AreDistinct, limit}
+pub use Rattle.cdi_model.specs.DeclList.{find_decl, is_of, AreDistinct}
 pub use Rattle.cdi_model.specs.Edits.{edited_all, edited_keys, is_among}
 pub use Rattle.cdi_model.proofs.EditLemmas.{edits_keep_decl}
 pub use Rattle.cdi_model.specs.declared.quals.Qual.{Qual}

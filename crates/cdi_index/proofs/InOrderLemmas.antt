@@ -4,7 +4,8 @@ use Rattle.cdi_index.proofs.Common.{refl, sym, ap, ◌∙◌, suc, zero, ◌<◌
 use Rattle.cdi_index.proofs.Common.{same-bool, nat_eq, eqb-true, nat_eq-refl, list_any, AllByRecursion, Decl, DeclKey, key_of, AreDistinct, Word, Listing}
 use Rattle.cdi_index.proofs.Common.{under, Kept, Made, made_in, made_of, Stored, IsExact, IsSound, words_have, words_by, has_one, entries}
 use Rattle.cdi_index.proofs.Common.{beans_under, Effective, lent, AreReplaced, position, position-there, is_of, option_map_or, kind_of, name_of_decl}
-use Rattle.cdi_index.proofs.Common.{find_decl, option_to_list, is_listed, made_of_bean, made_of_interceptor, keys_have, classes_have, or_right}
+use Rattle.cdi_index.proofs.Common.{find_decl, option_to_list, is_listed, made_of_bean, made_of_interceptor, keys_have, classes_have, or_right, word_at}
+use Rattle.cdi_index.proofs.Common.{any-same, or-false, observes_one}
 use Rattle.std.proofs.Common.{slice_index_or}
 use Rattle.std.proofs.lemmas.{List.append-nil, Map.Keys.any_passes_from_place}
 use Rattle.std.specs.List.{Any, Contains}
@@ -26,7 +27,10 @@ use Rattle.cdi_index.proofs.SlotLemmas.{has-place, lent-there}
 use Rattle.cdi_index.proofs.UnderLemmas.{key-found, made-at, of-decl}
 use Rattle.cdi_index.proofs.ChangeLemmas.{one-stored}
 use Rattle.cdi_index.specs.{Numbers.AreNumbered, Slots.AreAtSlots, Slots.entry_kept, declared.shelf.Entry.Entry}
-use Rattle.cdi_index.specs.InOrder.{decl_kept, is_word_of, kept_under, kept_with, numbers_of, records_kept, with_word, AreInOrder}
+use Rattle.cdi_index.proofs.SoughtLemmas.{observing-one}
+use Rattle.cdi_index.specs.Under.{is_observed}
+use Rattle.cdi_postings.specs.declared.word.Reason.TheVariants as reasons
+use Rattle.cdi_index.specs.InOrder.{decl_kept, is_observed_by, is_word_of, kept_under, kept_with, numbers_of, records_kept, with_word, AreInOrder}
 
 -- ---- members of lists
 
@@ -597,3 +601,13 @@ module _ (ds : List Decl) (bound : ℕ) (m : DeclKey → Option Stored) (kept : 
         ap (flat_map (decl_kept ds)) same-found
         ∙ flat-twice (decl_kept ds) of_decl (filter (has_one ds words) ds)
         ∙ all-of (has_one ds words) (λ d. flat_map (decl_kept ds) (of_decl d)) ds one-of
+
+-- something of what is kept observes a type just where an observer method does
+pub observed-found : (ds : List Decl) (bound : ℕ) (m : DeclKey → Option Stored) (kept : ℕ → Option Kept) (listings : List Listing)
+    → AreAtSlots m kept → IsExact ds m → IsSound m listings → AreDistinct ds → AreNumbered ds bound m → (t : List ℕ)
+    → is_observed_by kept listings t ≡ is_observed ds t
+observed-found ds bound m kept listings at_slots exact sound distinct numbered t =
+    let word : Word = word_at reasons.Observes t in
+    sym (or-false _)
+    ∙ any-found ds bound m kept listings at_slots exact sound distinct numbered (word ∷ [])
+    ∙ any-same (has_one ds (word ∷ [])) (observes_one (t ∷ [])) ds (observing-one ds (t ∷ []))

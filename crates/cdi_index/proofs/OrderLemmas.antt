@@ -4,6 +4,7 @@ use Rattle.cdi_index.proofs.Common.{Decl, Kind, Edit, DeclKey, key_at, key_of, k
 use Rattle.cdi_index.proofs.Common.{is_among, is_of, same_key_equiv, suc, zero, ◌<◌, slice_get, inl, inr, ◌⊎◌, AllByRecursion, arith}
 use Rattle.cdi_index.proofs.Common.{or_left, or_right}
 use Rattle.std.proofs.lemmas.List.{append-nil, append_assoc}
+use Rattle.base_lists.proofs.Each.{all-append}
 use Rattle.cdi_model.specs.DeclList.{put_in, remove_from}
 use Rattle.cdi_model.specs.Edits.{edited, edited_key}
 use Rattle.cdi_model.specs.declared.edit.Edit.TheVariants.{Put, Remove}
@@ -118,10 +119,6 @@ all-removed P k (l ∷ ls) all = by (same_key k l) (all-removed P k ls all.1)
     by true rest = all.1
     by false rest = (all.0, rest)
 
-all-append : {X : Type 0} (P : X → Type 0) (xs : List X) (x : X) → AllByRecursion P xs → P x → AllByRecursion P (xs ++ x ∷ [])
-all-append P [] x all is = (is, tt)
-all-append P (y ∷ xs) x all is = (all.0, all-append P xs x all.1 is)
-
 pub all-at : {X : Type 0} (P : X → Type 0) (xs : List X) → AllByRecursion P xs → (i : ℕ) (x : X) → slice_get xs i ≡ Some x → P x
 all-at P [] all i x at = absurd (let no : None ≡ Some x = at in cc)
 all-at P (y ∷ xs) all zero x at = let one : Some y ≡ Some x = at in subst P (let same : y ≡ x = cc in same) all.0
@@ -169,7 +166,7 @@ module _ (P : DeclKey → Type 0) (before : List DeclKey) where
       later = s.later ++ key_of d ∷ [];
       are = more ∙ ap (λ ks. ks ++ key_of d ∷ []) s.are ∙ append_assoc s.first s.later (key_of d ∷ []);
       part = s.part;
-      all = all-append P s.later (key_of d) s.all is;
+      all = all-append P s.later (key_of d ∷ []) s.all (is, tt);
     }
   ]
   split-edit ds (Remove kind name) is s =

@@ -1,6 +1,6 @@
 -- What is found under words, in the order of its numbers.
 use Rattle.std.specs.Prelude.{◌≡◌, ℕ, nat_eq, Bool, true, false, List, [], ◌∷◌, flat_map, map, filter, Option, Some, None, if◌then◌else◌}
-use Rattle.std.specs.List.{Any, Contains}
+use Rattle.std.specs.List.{list_any, Any, Contains}
 use Rattle.std.specs.List.Sorted.{IsStrictlySortedBy}
 use Rattle.std.specs.Ordering.{nat_cmp}
 use Rattle.std.specs.Option.{option_to_list}
@@ -9,7 +9,9 @@ use Rattle.cdi_model.specs.declared.key.DeclKey.{DeclKey}
 use Rattle.cdi_model.specs.DeclList.{find_decl}
 use Rattle.cdi_effective.specs.declared.records.Effective.{Effective}
 use Rattle.cdi_postings.specs.declared.word.Word.{Word}
+use Rattle.cdi_postings.specs.declared.word.Reason.TheVariants as reasons
 use Rattle.cdi_postings.specs.Listing.{Listing, under}
+use Rattle.cdi_postings.specs.Words.{word_at}
 use Rattle.cdi_index.specs.declared.shelf.Kept.{Kept}
 use Rattle.cdi_index.specs.declared.under.Sought.{Sought}
 use Rattle.cdi_index.specs.Made.{words_have}
@@ -20,6 +22,10 @@ use Rattle.cdi_index.specs.Under.{is_sought}
 abbrev pub is_word_of : Word → Option Kept → Bool
 is_word_of word None = false
 is_word_of word (Some e) = words_have e.made.words word
+
+-- something of what is kept observes the type
+abbrev pub is_observed_by : (ℕ → Option Kept) → List Listing → List ℕ → Bool
+is_observed_by kept listings t = list_any (λ s. is_word_of (word_at reasons.Observes t) (kept s)) (under listings (word_at reasons.Observes t))
 
 -- what is kept, where it has the word
 abbrev pub with_word : Word → Option Kept → List Kept

@@ -25,7 +25,7 @@ use crate::prepare::{Next, prepare};
 use crate::replaced::install_turns;
 use crate::shelf::Shelf;
 use crate::under::{
-    Sought, decls_under, is_word_of_one, only_slot, sought_at_slot, sought_under, words_observed,
+    Sought, decls_under, observed_among, only_slot, sought_at_slot, sought_under, words_observed,
 };
 use cdi_effective::Effective;
 use cdi_model::{Decl, DeclKey, Decls, Kind, Name, Qual};
@@ -289,16 +289,12 @@ impl Index {
         self.sought_under(alloc, words.as_slice(), Sought::Each)
     }
 
-    /// Whether an observer method observes a type. It takes no memory, and looks at the declarations that are listed for the type
-    /// until one does.
-    pub fn is_observed(&self, event_type: &Name) -> bool
-        ensures { result ≡ is_observed self.now.decls event_type.now }
+    /// Those of some types that an observer method observes, in order. It takes memory for a list of them, and looks at the
+    /// declarations that are listed for each until one does.
+    pub fn observed_among(&self, alloc: Global, types: &[Name]) -> Result<Vec<Name>, AllocError>
+        ensures { IfOk result (λ list. list.items ≡ filter (is_observed self.now.decls) types.now) }
     {
-        let word = Word {
-            reason: Reason::Observes,
-            name: *event_type,
-        };
-        is_word_of_one(&self.shelf, self.postings.under(word), &word)
+        observed_among(alloc, &self.shelf, &self.postings, types)
     }
 
     /// A draft without an edit. It takes memory as `Decls::copy` does.

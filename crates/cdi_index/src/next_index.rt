@@ -9,7 +9,7 @@ ghost use Rattle.cdi_index.specs.Asked.{is_asked};
 ghost use Rattle.cdi_index.specs.Next.{IsAfter};
 ghost use Rattle.cdi_index.specs.Replaced.{keys_turned};
 ghost use Rattle.cdi_index.specs.Slots.{entry_kept, kept_of_one, unless_among};
-ghost use Rattle.cdi_index.specs.Under.{bindings_in, has_one, observes_one};
+ghost use Rattle.cdi_index.specs.Under.{bindings_in, has_one, is_observed, observes_one};
 
 use crate::asked::{Asked, is_asked_at};
 use crate::change::Change;
@@ -17,7 +17,7 @@ use crate::index::{first_bindings, own_records};
 use crate::prepare::Next;
 use crate::replaced::{made_after, records_turned};
 use crate::shelf::{Entry, Shelf, Slots};
-use crate::under::{Sought, decls_under, sought_under, words_observed};
+use crate::under::{Sought, decls_under, observed_among, sought_under, words_observed};
 use cdi_effective::Effective;
 use cdi_model::{Decl, DeclKey, Decls, Kind, Name, Qual, Seq};
 use cdi_postings::{Postings, Reason, Word};
@@ -213,5 +213,12 @@ impl<'a> NextIndex<'a> {
     {
         let words = words_observed(alloc, types)?;
         sought_under(alloc, &self.slots, self.postings, &words, Sought::Each)
+    }
+
+    /// Those of some types that an observer method observes, in order. It takes memory for a list of them.
+    pub fn observed_among(&self, alloc: Global, types: &[Name]) -> Result<Vec<Name>, AllocError>
+        ensures { IfOk result (λ list. list.items ≡ filter (is_observed self.now) types.now) }
+    {
+        observed_among(alloc, &self.slots, self.postings, types)
     }
 }

@@ -1,5 +1,5 @@
 //! The declarations that are under words, and the beans that are found by these.
-ghost use Rattle.std.specs.Prelude.{◌≡◌, ◌<◌, ◌||◌, ◌++◌, ℕ, List, Some, filter, flat_map, length, map, option_map, IfOk, IfSome, OnOk};
+ghost use Rattle.std.specs.Prelude.{◌≡◌, ◌<◌, ◌||◌, ◌∷◌, ◌++◌, [], ℕ, List, Some, filter, flat_map, length, map, option_map, IfOk, IfSome, OnOk};
 ghost use Rattle.std.specs.List.{list_any};
 ghost use Rattle.std.specs.Option.{option_to_list};
 ghost use Rattle.cdi_model.specs.DeclList.{find_decl};
@@ -10,7 +10,7 @@ ghost use Rattle.cdi_postings.specs.Listing.{under};
 ghost use Rattle.cdi_postings.specs.Words.{word_at};
 ghost use Rattle.cdi_postings.specs.declared.word.Word.{Word as AnyWord};
 ghost use Rattle.cdi_postings.specs.declared.word.Reason.TheVariants as reasons;
-ghost use Rattle.cdi_index.specs.InOrder.{is_word_of, kept_under, kept_with, records_kept, with_word, AreInOrder, AreSought, AreUnder};
+ghost use Rattle.cdi_index.specs.InOrder.{is_observed_by, is_word_of, kept_under, kept_with, records_kept, with_word, AreInOrder, AreSought, AreUnder};
 ghost use Rattle.cdi_index.specs.Under.{has_name, is_sought};
 
 use crate::index::own_records;
@@ -107,7 +107,7 @@ fn is_word_of(kept: Option<Entry<'_>>, word: &Word) -> bool
 }
 
 /// Whether what is kept at one of some slots has a word.
-pub(crate) fn is_word_of_one<S: Slots>(shelved: &S, slots: &[u64], word: &Word) -> bool
+fn is_word_of_one<S: Slots>(shelved: &S, slots: &[u64], word: &Word) -> bool
     ensures { result ≡ list_any (λ slot. is_word_of word.now (S.kept shelved.now slot)) slots.now }
 {
     for slot in slots {
@@ -116,6 +116,49 @@ pub(crate) fn is_word_of_one<S: Slots>(shelved: &S, slots: &[u64], word: &Word) 
         }
     }
     false
+}
+
+/// Whether what is kept observes a type.
+fn is_observed<S: Slots>(shelved: &S, postings: &Postings, event_type: &Name) -> bool
+    ensures { result ≡ is_observed_by (S.kept shelved.now) postings.now event_type.now }
+{
+    let word = Word {
+        reason: Reason::Observes,
+        name: *event_type,
+    };
+    is_word_of_one(shelved, postings.under(word), &word)
+}
+
+/// Those of some types that something of what is kept observes, in order.
+pub(crate) fn observed_among<S: Slots>(
+    alloc: Global,
+    shelved: &S,
+    postings: &Postings,
+    types: &[Name],
+) -> Result<Vec<Name>, AllocError>
+    ensures { IfOk result (λ list. list.items ≡ filter (is_observed_by (S.kept shelved.now) postings.now) types.now) }
+{
+    let mut list = Vec::new(alloc);
+    for event_type in types {
+        push_observed(shelved, postings, event_type, &mut list)?;
+    }
+    Ok(list)
+}
+
+/// Appends a type, if something of what is kept observes it.
+fn push_observed<S: Slots>(
+    shelved: &S,
+    postings: &Postings,
+    event_type: &Name,
+    list: &mut Vec<Name>,
+) -> Result<(), AllocError>
+    ensures { OnOk result (list.new.items
+        ≡ list.old.items ++ filter (is_observed_by (S.kept shelved.now) postings.now) (event_type.now ∷ [])) }
+{
+    if is_observed(shelved, postings, event_type) {
+        list.push(*event_type)?;
+    }
+    Ok(())
 }
 
 /// Appends what is kept, where it has a word.

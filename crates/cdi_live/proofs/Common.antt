@@ -1,7 +1,7 @@
 -- The names that several proofs cite, passed on from one place. Declares nothing.
 pub use Rattle.std.proofs.Common.{◌≡◌, Bool, true, false, ◌&&◌, List, [], ◌∷◌, map, refl, sym, ap, ◌∙◌, ℕ, ◌||◌, Option, Some, None, not}
 pub use Rattle.std.proofs.Common.{is_some, inl, inr, subst, length, ◌++◌, Ok, if◌then◌else◌, cond, flat_map, unwrap_or, option_map, filter}
-pub use Rattle.std.proofs.Common.{slice_get, arith, zero, suc, ◌+◌, ◌<◌, take, nat_eq, ◌-◌}
+pub use Rattle.std.proofs.Common.{slice_get, arith, zero, suc, ◌+◌, take, nat_eq, ◌-◌}
 pub use Rattle.std.specs.{List.list_any, List.list_all, Str.bytes_eq, Option.option_map_or, Option.option_to_list}
 pub use Rattle.std.specs.{Option.option_copied, Cmp.Lexicographic.bytes_decides, Map.keys_of, Prelude.IfSome}
 pub use Rattle.std.proofs.lemmas.Bool.{and_from, and_parts, false≢true, or_cases, or_left, or_right, not-true, eqb-true, or_parts, or_from}

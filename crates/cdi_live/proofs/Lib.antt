@@ -18,7 +18,6 @@ mod AroundLemmas
 mod LiveChainLemmas
 mod EventAskedLemmas
 mod EventSuspectLemmas
-mod EventCompareLemmas
 mod EventGoneLemmas
 mod KnownLemmas
 mod MovedLemmas

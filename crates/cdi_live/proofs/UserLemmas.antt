@@ -1,7 +1,7 @@
 -- Declarations with the word of an edited qualifier use it.
-use Rattle.cdi_live.proofs.Common.{◌≡◌, Bool, true, false, ◌&&◌, List, [], ◌∷◌, map, sym, ap, ◌∙◌, inl, inr, ℕ, ◌||◌, flat_map}
+use Rattle.cdi_live.proofs.Common.{◌≡◌, Bool, true, false, ◌&&◌, List, [], ◌∷◌, map, sym, ap, ◌∙◌, inl, inr, ℕ, flat_map}
 use Rattle.cdi_live.proofs.Common.{list_any, list_any-append, and_from, false≢true, or_cases, or_left, or_right, Decl, Qual, DeclKey}
-use Rattle.cdi_live.proofs.Common.{key_of, kind_of, name_of_decl, key_at, same_key, key_exact, is_among, IsPresent, found_any, holds}
+use Rattle.cdi_live.proofs.Common.{kind_of, name_of_decl, key_at, same_key, key_exact, is_among, IsPresent, found_any, holds}
 use Rattle.cdi_live.proofs.Common.{Word, same_word, same_word_equiv, word_at, words_have, words_of_uses, words_by}
 use Rattle.cdi_model.specs.declared.decl.Kind.TheVariants as kinds
 use Rattle.cdi_postings.specs.declared.word.Reason.TheVariants as reasons

@@ -9,10 +9,10 @@ use Rattle.cdi_effective.specs.Beans.{beans}
 use Rattle.cdi_memo.specs.Answers.{parts_under, Answers}
 use Rattle.cdi_observe.specs.declared.observers.ObserverId.{ObserverId}
 use Rattle.cdi_observe.specs.Keys.{EventKey}
-use Rattle.cdi_observe.specs.Lent.{lent_in}
 use Rattle.cdi_observe.specs.Observers.{observing}
-use Rattle.cdi_seen.specs.Touched.{is_touched}
-use Rattle.cdi_live.specs.declared.event_compare.Observed.{Observed}
+use Rattle.cdi_questions.specs.Observed.{observed_types}
+use Rattle.cdi_seen.specs.Touched.{is_touched, observers_alike}
+use Rattle.cdi_live.specs.declared.event_compare.Compared.{Compared}
 
 -- the observer methods that are kept of events
 abbrev pub Events : Type 0
@@ -26,7 +26,13 @@ is_touched_among ds es t us parts = list_any (λ q. same_quals us q && is_touche
 abbrev pub is_touched_of : List Decl → List Decl → Events → List (List ℕ) → List ℕ → List Qual → Bool
 is_touched_of ds es m types t us = list_any (λ n. bytes_eq t n && is_touched_among ds es n us (parts_under m n)) types
 
--- These are the observer methods that an event of the type sees, before and after.
-pub record AreObserved (ds es : List Decl) (t : List ℕ) (observed : Observed) : Type 0 where
-  pub before : lent_in observed.before.items ≡ observing ds (beans ds) t
-  pub after : lent_in observed.after.items ≡ observing es (beans es) t
+-- events of the type see the same observer methods
+abbrev pub see_same_observers : List Decl → List Decl → List ℕ → Bool
+see_same_observers ds es t = observers_alike ds (observing ds (beans ds) t) es (observing es (beans es) t)
+
+-- so it is for each type of which an event has just these that are observed, before and after
+abbrev pub IsCompared : List Decl → List Decl → List (List ℕ) → List (List ℕ) → Bool → Type 0
+IsCompared ds es before after is = (t : List ℕ) → before ≡ observed_types ds t → after ≡ observed_types es t → is ≡ see_same_observers ds es t
+
+abbrev pub IsRightBetween : List Decl → List Decl → Compared → Type 0
+IsRightBetween ds es compared = IsCompared ds es compared.before.items compared.after.items compared.is_same

@@ -8,7 +8,7 @@ ghost use Rattle.cdi_intercept.specs.Bindings.{in_text_order};
 ghost use Rattle.cdi_memo.specs.Answers.{parts_under};
 ghost use Rattle.cdi_observe.specs.Keys.{same_place, ChainKey};
 ghost use Rattle.cdi_seen.specs.Touched.{is_touched};
-ghost use Rattle.cdi_live.specs.ChainCompared.{see_same_interceptors, set_bound, AreBound, IsBound};
+ghost use Rattle.cdi_live.specs.ChainCompared.{are_same_bindings, is_of_class, see_same_interceptors, set_bound, AreBound, IsBound};
 ghost use Rattle.cdi_live.specs.ChainGone.{goes, is_gone_chain};
 ghost use Rattle.cdi_live.specs.Compared.{IsBetween};
 
@@ -49,18 +49,24 @@ fn bound<'a>(decls: &'a Decls, class: &Name, bindings: &'a [Qual]) -> Option<Bou
 pub(crate) struct BeanSides<'a> {
     pub(crate) before: Option<BoundBean<'a>>,
     pub(crate) after: Option<BoundBean<'a>>,
+    /// Whether the bindings of the class are the same before and after, and declared alike.
+    pub(crate) is_same_class: bool,
 }
 
 /// That of a class.
-fn both<'a>(sides: &Sides<'a>, class: &Name) -> BeanSides<'a>
-    ensures { AreBound sides.now.index.now.decls sides.now.next.now class.now result }
+fn both<'a>(alloc: Global, sides: &Sides<'a>, class: &Name) -> Result<BeanSides<'a>, AllocError>
+    ensures { IfOk result (AreBound sides.now.index.now.decls sides.now.next.now class.now) }
 {
     let index = sides.index;
     let next = sides.next;
-    BeanSides {
-        before: bound(index.decls(), class, index.class_bindings(class)),
-        after: bound(next.decls(), class, next.class_bindings(class)),
-    }
+    let before = bound(index.decls(), class, index.class_bindings(class));
+    let after = bound(next.decls(), class, next.class_bindings(class));
+    let is_same_class = are_same_bindings(alloc, sides, before, after, &BeanPlace::Construct)?;
+    Ok(BeanSides {
+        before,
+        after,
+        is_same_class,
+    })
 }
 
 /// The bindings at a place of a bean, if there is one: each once, in the byte order of their texts.
@@ -79,20 +85,78 @@ fn bindings_at<'a>(
     }
 }
 
-/// Whether a place with some bindings sees the same interceptors before and after the draft. It looks at those that have a
-/// binding of one of their types, before or after.
+/// Whether the bindings at a place are those of the class of any bean.
+fn is_of_class(place: &BeanPlace) -> bool
+    ensures { result ≡ is_of_class place.now }
+{
+    matches!(
+        place,
+        BeanPlace::Construct | BeanPlace::Post | BeanPlace::Pre
+    )
+}
+
+/// Whether a bean has the same bindings at a place before the draft and after it, and these are declared alike.
+fn are_same_bindings(
+    alloc: Global,
+    sides: &Sides<'_>,
+    before: Option<BoundBean<'_>>,
+    after: Option<BoundBean<'_>>,
+    place: &BeanPlace,
+) -> Result<bool, AllocError>
+    ensures { IfOk result (λ is. is ≡ are_same_bindings sides.now.index.now.decls sides.now.next.now before.entry after.entry place.now) }
+{
+    let olds = bindings_at(alloc, sides.index.decls(), before, place)?;
+    let news = bindings_at(alloc, sides.next.decls(), after, place)?;
+    if !same_as_written(&olds, &news) {
+        return Ok(false);
+    }
+    Ok(same_types(sides.index.decls(), &olds, sides.next.decls(), &news))
+}
+
+/// The same of the bean of a class. The bindings of the class are not compared again.
+fn are_same_at(
+    alloc: Global,
+    sides: &Sides<'_>,
+    both: BeanSides<'_>,
+    place: &BeanPlace,
+) -> Result<bool, AllocError>
+    ensures { IfOk result (λ is. (class : List ℕ) → AreBound sides.now.index.now.decls sides.now.next.now class both.entry
+        → is ≡ are_same_bindings sides.now.index.now.decls sides.now.next.now both.entry.before both.entry.after place.now) }
+{
+    if is_of_class(place) {
+        return Ok(both.is_same_class);
+    }
+    are_same_bindings(alloc, sides, both.before, both.after, place)
+}
+
+/// Whether a place of a bean sees the same interceptors before and after the draft, where its bindings are these. It looks at
+/// those that have a binding of one of their types, before or after.
 fn see_same_interceptors(
+    alloc: Global,
+    sides: &Sides<'_>,
+    before: Option<BoundBean<'_>>,
+    place: &BeanPlace,
+) -> Result<bool, AllocError>
+    requires { IsBetween sides.now }
+    ensures { IfOk result (λ is. is ≡ see_same_interceptors sides.now.index.now.decls sides.now.next.now
+        (in_text_order (set_bound sides.now.index.now.decls before.entry place.now)) place.now) }
+{
+    if !sides.moves_interceptors {
+        return Ok(true);
+    }
+    let bindings = bindings_at(alloc, sides.index.decls(), before, place)?;
+    see_same_among(alloc, sides, &bindings, place)
+}
+
+/// Whether a place with some bindings does.
+fn see_same_among(
     alloc: Global,
     sides: &Sides<'_>,
     bindings: &[&Qual],
     place: &BeanPlace,
 ) -> Result<bool, AllocError>
-    requires { IsBetween sides.now }
     ensures { IfOk result (λ is. is ≡ see_same_interceptors sides.now.index.now.decls sides.now.next.now (uses_in bindings.now) place.now) }
 {
-    if !sides.moves_interceptors {
-        return Ok(true);
-    }
     let words = words_bound(alloc, bindings)?;
     let before = sides.index.decls_under(alloc, &words)?;
     let after = sides.next.decls_under(alloc, &words)?;
@@ -112,15 +176,10 @@ fn is_touched(
     ensures { IfOk result (λ is. (class : List ℕ) → AreBound sides.now.index.now.decls sides.now.next.now class both.entry
         → is ≡ is_touched sides.now.index.now.decls sides.now.next.now (ChainKey class place.now)) }
 {
-    let olds = bindings_at(alloc, sides.index.decls(), both.before, place)?;
-    let news = bindings_at(alloc, sides.next.decls(), both.after, place)?;
-    if !same_as_written(&olds, &news) {
+    if !are_same_at(alloc, sides, both, place)? {
         return Ok(true);
     }
-    if !same_types(sides.index.decls(), &olds, sides.next.decls(), &news) {
-        return Ok(true);
-    }
-    let is_same = see_same_interceptors(alloc, sides, &olds, place)?;
+    let is_same = see_same_interceptors(alloc, sides, both.before, place)?;
     Ok(!is_same)
 }
 
@@ -167,7 +226,7 @@ fn push_gone_of_class(
     if chains.part_at(class, 0).is_none() {
         return Ok(());
     }
-    let both = both(sides, class);
+    let both = both(alloc, sides, class)?;
     let mut index = 0;
     'parts: while let Some(part) = chains.part_at(class, index) {
         push_if_gone(alloc, sides, both, class, &part.place(), gone)?;

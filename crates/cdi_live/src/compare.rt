@@ -28,7 +28,7 @@ fn see_same_beans(alloc: Global, sides: &Sides<'_>, bean_type: &Name) -> Result<
 }
 
 /// Whether each of some qualifiers is declared alike before and after the draft.
-fn are_declared_alike(sides: &Sides<'_>, uses: &[Qual]) -> bool
+pub(crate) fn are_declared_alike(sides: &Sides<'_>, uses: &[Qual]) -> bool
     ensures { result ≡ list_all (λ u. declare_alike sides.now.index.now.decls sides.now.next.now u.name) uses.now }
 {
     uses.iter().all(|qual| same_qualifier(sides.index.decls(), sides.next.decls(), qual.name))

@@ -203,9 +203,9 @@ impl Live {
 
     /// The names of the interceptors around a place of the bean of a class, in order (Interceptors 2.1, Interceptor
     /// Ordering), whether it is enabled or not. It is refused with `UnknownName` where no such bean is declared, and with
-    /// `NoMethod` where it has no such place. A chain that is not kept is computed, counted and kept; a draft that is staged
-    /// is then given up. It takes memory for the answer, and to compute and keep it. Where it is refused or without memory
-    /// nothing has changed.
+    /// `NoMethod` where it has no such place. A chain that is kept is shared, which takes no memory. Else it is computed, counted
+    /// and kept, which takes memory; a draft that is staged is then given up. Where it is refused or without memory nothing has
+    /// changed.
     pub fn chain(
         &mut self,
         alloc: Global,
@@ -247,9 +247,9 @@ impl Live {
     }
 
     /// The observer methods that are notified of an event of a type with some qualifiers, in order (CDI 4.0, Observer
-    /// resolution; Observer ordering). Those that are not kept are computed and counted, and kept if a body may fire the
-    /// event; a draft that is staged is then given up. It takes memory for the answer, and to compute and keep it. Without
-    /// memory nothing has changed.
+    /// resolution; Observer ordering). Those that are kept are shared, which takes no memory. Else they are computed and counted,
+    /// and kept if a body may fire the event, which takes memory; a draft that is staged is then given up. Without memory
+    /// nothing has changed.
     pub fn observers(
         &mut self,
         alloc: Global,

@@ -1,5 +1,5 @@
 -- The types of an event that some observer method observes are enough to find its observer methods.
-use Rattle.std.proofs.Common.{◌≡◌, ℕ, Bool, true, false, cond, not, ◌&&◌, ◌||◌, List, [], ◌∷◌, ◌++◌, map, filter, Option, Some, None}
+use Rattle.std.proofs.Common.{◌≡◌, ℕ, Bool, true, false, cond, not, ◌&&◌, ◌||◌, List, [], ◌∷◌, ◌++◌, map, flat_map, filter, Option, Some, None}
 use Rattle.std.proofs.Common.{is_some, refl, sym, ap, ◌∙◌}
 use Rattle.std.specs.List.{list_any, AllByRecursion}
 use Rattle.std.specs.Str.{bytes_eq}
@@ -7,15 +7,16 @@ use Rattle.std.proofs.lemmas.{Bool.or_left, Bool.or_right, Bool.false≢true, Li
 use Rattle.base_lists.specs.Sorting.{sorted_by}
 use Rattle.std.specs.Cmp.Lexicographic.{bytes_decides}
 use Rattle.cdi_model.specs.declared.decl.{BeanDecl.BeanDecl, Decl.Decl, ObserverDecl.ObserverDecl}
-use Rattle.cdi_model.specs.{declared.quals.Qual.Qual, DeclList.find_decl, DeclList.is_of}
+use Rattle.cdi_model.specs.{declared.quals.Qual.Qual, DeclList.find_decl, DeclList.is_of, DeclList.AreDistinct}
 use Rattle.cdi_model.specs.declared.decl.Decl.TheVariants as decls
 use Rattle.cdi_model.specs.declared.decl.Kind.TheVariants as kinds
 use Rattle.cdi_match.specs.{Chain.has, Types.types_of}
-use Rattle.cdi_effective.specs.{Beans.beans, Disposers.as_bean, Disposers.find_bean, declared.records.Effective.Effective}
+use Rattle.cdi_effective.specs.{Beans.beans, Beans.entries, Disposers.as_bean, Disposers.find_bean, declared.records.Effective.Effective}
 use Rattle.cdi_index.specs.Under.{is_observed, observes_one}
 use Rattle.cdi_observe.specs.Observers.{Observer, declared_by, enabled_bean, is_before, is_notified, notified, notified_by, observer_id}
 use Rattle.cdi_observe.specs.Observers.{observers, observes, observing, resolved}
 use Rattle.cdi_questions.specs.Observed.{observed_types}
+use Rattle.cdi_questions.proofs.CandidateLemmas.{same-observers}
 
 -- a name that passes is among those that are left, where it was among all
 still-has : (p : List ℕ → Bool) (xs : List (List ℕ)) (x : List ℕ) → p x ≡ true → has (filter p xs) x ≡ has xs x
@@ -98,3 +99,12 @@ pub observed_enough : (ds : List Decl) (t : List ℕ) (quals : List Qual)
 unfolding resolved observing
 observed_enough ds t quals =
     ap (λ os. map observer_id (filter (is_notified ds quals) (sorted_by is_before os))) (same-of-records ds (types_of ds t) (beans ds))
+
+-- of the beans of the declarations that observe one of the observed types of an event, all that it sees
+pub observing_observed : (ds : List Decl) (types : List (List ℕ)) → AreDistinct ds → (t : List ℕ) → types ≡ observed_types ds t
+    → sorted_by is_before (filter (observes types) (observers ds (flat_map (entries ds) (filter (observes_one types) ds))))
+    ≡ observing ds (beans ds) t
+unfolding observing
+observing_observed ds types distinct t are =
+    ap (sorted_by is_before) (same-observers ds types distinct
+    ∙ ap (λ ts. filter (observes ts) (observers ds (beans ds))) are ∙ same-of-records ds (types_of ds t) (beans ds))

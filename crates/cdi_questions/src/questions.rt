@@ -1,8 +1,7 @@
 //! Questions that look only at the beans which the index lists for them.
-ghost use Rattle.std.specs.Prelude.{◌≡◌, ◌++◌, ◌∷◌, [], ℕ, List, filter, IfOk, OnOk, OnErr};
+ghost use Rattle.std.specs.Prelude.{◌≡◌, ℕ, List, IfOk, OnOk, OnErr};
 ghost use Rattle.cdi_model.specs.Work.{with_one};
 ghost use Rattle.cdi_effective.specs.Beans.{beans};
-ghost use Rattle.cdi_index.specs.Under.{is_observed};
 ghost use Rattle.cdi_resolve.specs.Choices.{chosen, chosen_by_name};
 ghost use Rattle.cdi_observe.specs.Observers.{notified};
 ghost use Rattle.cdi_questions.specs.Found.{is_found};
@@ -89,31 +88,10 @@ pub fn observed_types(
     ensures { IfOk result (λ types. types.items ≡ observed_types index.now.decls event_type) }
 {
     if let Some(types) = index.types(&event_type) {
-        return observed_among(alloc, index, types);
+        return index.observed_among(alloc, types);
     }
     let types = closure(alloc, index.decls(), event_type)?;
-    observed_among(alloc, index, &types)
-}
-
-/// Those of some types that some observer method observes, in order.
-fn observed_among(alloc: Global, index: &Index, types: &[Name]) -> Result<Vec<Name>, AllocError>
-    ensures { IfOk result (λ list. list.items ≡ filter (is_observed index.now.decls) types.now) }
-{
-    let mut list = Vec::new(alloc);
-    for name in types {
-        push_observed(index, name, &mut list)?;
-    }
-    Ok(list)
-}
-
-/// Appends a type, if some observer method observes it.
-fn push_observed(index: &Index, name: &Name, list: &mut Vec<Name>) -> Result<(), AllocError>
-    ensures { OnOk result (list.new.items ≡ list.old.items ++ filter (is_observed index.now.decls) (name.now ∷ [])) }
-{
-    if index.is_observed(name) {
-        list.push(*name)?;
-    }
-    Ok(())
+    index.observed_among(alloc, &types)
 }
 
 /// The observer methods that are notified of an event with some qualifiers, in order, where these are the types of it that

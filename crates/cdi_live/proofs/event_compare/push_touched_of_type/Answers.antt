@@ -4,8 +4,8 @@ use Rattle.std.proofs.lemmas.Option.{slice_get_within}
 use Rattle.cdi_live.proofs.PartLemmas.{any-next, none-copied, nothing-more, regroup, take-whole}
 use Rattle.cdi_live.proofs.event_compare.push_touched_of_type.Goals as goal
 
-pub returns-then-is_none : goal.returns-then-is_none
-returns-then-is_none c t us =
+pub returns-then-is_none-clause-gone : goal.returns-then-is_none-clause-gone
+returns-then-is_none-clause-gone c t us =
     let ds = c.args.sides.now.index.now.decls in
     let es = c.args.sides.now.next.now in
     let name = c.args.event_type.now in
@@ -43,8 +43,8 @@ parts-preserved c t us =
     ∙ regroup gone b (is_touched_among ds es name us (take c.parts.index parts)) (f q)
     ∙ ap (λ x. gone || (b && x)) (sym (any-next f parts c.parts.index q (sym c.in-Some.ensures.part)))
 
-pub returns : goal.returns
-returns c t us =
+pub returns-clause-gone : goal.returns-clause-gone
+returns-clause-gone c t us =
     let ds = c.args.sides.now.index.now.decls in
     let es = c.args.sides.now.next.now in
     let name = c.args.event_type.now in
