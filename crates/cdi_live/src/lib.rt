@@ -17,6 +17,7 @@ mod event_stage;
 mod event_suspects;
 mod events;
 mod gone;
+mod interceptor_moves;
 mod interceptors;
 mod live;
 mod memos;

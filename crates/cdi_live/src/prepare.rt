@@ -3,7 +3,7 @@ ghost use Rattle.std.specs.Prelude.{◌≡◌, ◌∷◌, [], true, is_some, Som
 ghost use Rattle.cdi_effective.specs.Qualifiers.{default_use};
 ghost use Rattle.cdi_index.specs.State.{staged_by, IsEdited};
 ghost use Rattle.cdi_index.specs.Told.{Tells};
-ghost use Rattle.cdi_live.specs.Compared.{has_interceptor, is_interceptor, IsBetween};
+ghost use Rattle.cdi_live.specs.Compared.{IsBetween};
 ghost use Rattle.cdi_live.specs.Concerned.{Concerns};
 ghost use Rattle.cdi_live.specs.Kept.{AreAsked, AreGoing};
 ghost use Rattle.cdi_live.specs.State.{seen};
@@ -11,12 +11,13 @@ ghost use Rattle.cdi_live.specs.State.{seen};
 use crate::chain_stage::gone_chains_after;
 use crate::dropped::Wants;
 use crate::event_stage::gone_events_after;
+use crate::interceptor_moves::moves_interceptors;
 use crate::memos::{Going, Memos};
 use crate::moved::concerned_by;
 use crate::sides::Sides;
 use crate::stage::gone_after;
 use cdi_index::{Draft, Index};
-use cdi_model::{DeclKey, Kind, Quals};
+use cdi_model::{DeclKey, Quals};
 use std::alloc::{AllocError, Global};
 
 /// Copies of some keys.
@@ -35,19 +36,6 @@ fn copy_keys(alloc: Global, keys: &[DeclKey]) -> Result<Vec<DeclKey>, AllocError
 struct Keys {
     edited: Vec<DeclKey>,
     affected: Vec<DeclKey>,
-}
-
-/// Whether one of some keys is that of an interceptor.
-fn has_interceptor(keys: &[DeclKey]) -> bool
-    ensures { result ≡ has_interceptor keys.now }
-{
-    keys.iter().any(|key| is_interceptor(key.kind))
-}
-
-fn is_interceptor(kind: Kind) -> bool
-    ensures { result ≡ is_interceptor kind }
-{
-    matches!(kind, Kind::Interceptor)
 }
 
 /// The answers that are kept.
@@ -99,12 +87,14 @@ fn going_between(
         AreGoing index.now.decls next.decls kept.now.memos.now going)) }
 {
     let next = index.next().unwrap();
+    let edited = keys.edited.as_slice();
+    let affected = keys.affected.as_slice();
     let sides = Sides {
         index,
         next: &next,
-        edited: keys.edited.as_slice(),
-        affected: keys.affected.as_slice(),
-        moves_interceptors: has_interceptor(keys.affected.as_slice()),
+        edited,
+        affected,
+        moves_interceptors: moves_interceptors(alloc, index, &next, edited, affected)?,
     };
     going_after(alloc, &sides, kept)
 }

@@ -12,6 +12,6 @@ pub(crate) struct Sides<'a> {
     pub(crate) edited: &'a [DeclKey],
     /// Those of the declarations that the edits affect.
     pub(crate) affected: &'a [DeclKey],
-    /// Whether interceptors are among them.
+    /// Whether one of them is an interceptor that is edited, or of which the bindings are filled otherwise after the draft.
     pub(crate) moves_interceptors: bool,
 }
