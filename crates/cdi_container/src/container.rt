@@ -359,7 +359,7 @@ impl<B: Bodies> Container<B> {
     /// (Interceptors 2.1, Interceptor Ordering), whether the bean is enabled or not. It is refused with `UnknownName` where
     /// no such bean is declared, and with `NoMethod` where it has no such place, as of a static producer method. An answer that
     /// is known is shared. Else it is computed, counted, and known from then on: it takes memory for the bindings there, for the
-    /// interceptors that have one of them, and for the names.
+    /// interceptors that have one of them, for the names, and to keep the answer.
     pub fn chain(&mut self, bean: Name, place: &BeanPlace) -> Result<Shared<Name>, Error>
         ensures answer { Answers result (chain_of self.old.decls bean place.now) }
         ensures ok { OnOk result (self.new ≡ untold (asked self.old (ChainKey bean place.now ∷ []))) }
